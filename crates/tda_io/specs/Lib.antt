@@ -1,0 +1,6 @@
+pub mod Outside
+pub mod Memory
+pub mod Rows
+pub mod Texts
+pub mod Due
+pub mod Csv

@@ -1,0 +1,12 @@
+pub mod Schema
+pub mod Cells
+pub mod Groups
+pub mod Spine
+pub mod Tables
+pub mod Bounds
+pub mod Deviation
+pub mod Least
+pub mod First
+pub mod Release
+pub mod Sizes
+pub mod TablesText

@@ -1,0 +1,2 @@
+//! What tda is about, as definitions: cells, groups, spine, tables, what is attainable, what is least.
+#![tactic(auto)]
