@@ -1,0 +1,13 @@
+//! Exact fractions of 64-bit numbers in lowest terms: reading, adding, comparing and writing them.
+#![tactic(auto)]
+
+mod frac;
+mod memory;
+mod whole;
+
+pub use frac::Frac;
+pub use memory::NoMemory;
+pub use whole::lcm;
+
+#[cfg(test)]
+mod tests;
