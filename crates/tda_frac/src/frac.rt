@@ -88,7 +88,7 @@ impl Frac {
         let left = u128::from(self.num) * u128::from(other.den / common);
         let right = u128::from(other.num) * u128::from(self.den / common);
         let sum = left.checked_add(right)?;
-        let shared = gcd(common, (sum % u128::from(common)) as u64);
+        let shared = gcd((sum % u128::from(common)) as u64, common);
         let den = u128::from(self.den / common) * u128::from(other.den / shared);
         Some(Frac {
             num: u64::try_from(sum / u128::from(shared)).ok()?,

@@ -8,7 +8,8 @@ use itoa::Buffer;
 
 // The greatest common divisor, by remainders. That of 0 and 0 is 0.
 pub(crate) fn gcd(a: u64, b: u64) -> u64
-    ensures { IsGcd a b result }
+    ensures divisor { IsGcd a b result }
+    ensures some { 1 ≤ b → 1 ≤ result }
 {
     let mut greater = a;
     let mut divisor = b;
