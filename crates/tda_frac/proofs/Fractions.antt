@@ -1,5 +1,5 @@
 -- Fractions as rational numbers.
-use Rattle.std.proofs.Common.{ℕ, ◌≡◌, ◌+◌, ◌*◌, ◌^◌, ◌<◌, ◌≤◌, ◌/◌, ◌%◌, arith, refl, sym, subst, ap, ◌∙◌}
+use Rattle.std.proofs.Common.{ℕ, ◌≡◌, ◌+◌, ◌*◌, ◌^◌, ◌<◌, ◌≤◌, ◌/◌, ◌%◌, arith, refl, sym, subst, ap, ◌∙◌, ◌↔◌, Option, Some, None, IfSome, IsSome}
 use Rattle.std.specs.Int.{IsGcd, ◌∣◌}
 use Rattle.std.proofs.Math.Nat.{dvd-mul_left, dvd-mul_right, dvd-mul_left_of_dvd, mul-div_cancel', pos_of_dvd_of_pos, eq_of_mul-eq-mul_left, eq_of_mul-eq-mul_right, mul_comm, add_comm, mul-pos}
 use Rattle.std.proofs.lemmas.Nat.{mul-lt}
@@ -60,18 +60,23 @@ sum_same a c b' d d' g t s T D sum top common bottom =
 factor_divides : (a b n : ℕ) → a * b ≡ n → b ∣ n
 factor_divides a b n e = subst (λ k. b ∣ k) e (dvd-mul_left b a)
 
+-- f is the number g, in lowest terms, whether or not that fits
+pub record IsLowestTermsOf (f g : Fraction) : Type 0 where
+  pub reduced : IsReduced f
+  pub same : SameNumber f g
+  pub denominator : 1 ≤ g.den
+
 -- The sum in lowest terms, by Knuth's method: c is what the denominators have in common, t the numerator
 -- over their least common multiple, and s what t and c share.
 abbrev pub knuth_sum : Fraction → Fraction → ℕ → ℕ → ℕ → Fraction
 knuth_sum f g c t s = record { num = t / s; den = f.den / c * (g.den / s) }
 
 pub record IsKnuthSum (f g : Fraction) (c t s : ℕ) : Type 0 where
-  pub reduced : IsReduced (knuth_sum f g c t s)
-  pub same : SameNumber (knuth_sum f g c t s) (sum_of f g)
+  pub lowest : IsLowestTermsOf (knuth_sum f g c t s) (sum_of f g)
   pub whole : t ≡ s * (t / s)
   pub small : s ≤ g.den
 
-pub IsKnuthSum-from_gcd : (f g : Fraction) (c t s : ℕ) → IsReduced f → IsReduced g → IsGcd f.den g.den c → t ≡ f.num * (g.den / c) + g.num * (f.den / c) → IsGcd (t % c) c s → IsKnuthSum f g c t s
+IsKnuthSum-from_gcd : (f g : Fraction) (c t s : ℕ) → IsReduced f → IsReduced g → IsGcd f.den g.den c → t ≡ f.num * (g.den / c) + g.num * (f.den / c) → IsGcd (t % c) c s → IsKnuthSum f g c t s
 IsKnuthSum-from_gcd f g c t s low_f low_g common sum rest =
     let some : 0 < c = pos_of_dvd_of_pos common.1 low_g.denominator in
     let shared : IsGcd t c s = IsGcd-from_mod t c s (IsGcd-swap (t % c) c s rest) in
@@ -86,8 +91,11 @@ IsKnuthSum-from_gcd f g c t s low_f low_g common sum rest =
     let lowest = sum_lowest f.num g.num (f.den / c) (g.den / c) c t s (t / s) (g.den / s) some low_b low_d both sum (sym top) (d ∙ sym bottom) shared in
     let same = sum_same f.num g.num (f.den / c) g.den (g.den / c) c t s (t / s) (g.den / s) sum (sym top) (sym d) (sym bottom) in
     record {
-      reduced = record { denominator = mul-pos (pos_of_dvd_of_pos (factor_divides c (f.den / c) f.den b) low_f.denominator) (pos_of_dvd_of_pos (factor_divides s (g.den / s) g.den bottom) low_g.denominator); lowest = lowest };
-      same = subst (λ n. t / s * (n * g.den) ≡ (f.num * g.den + g.num * n) * (f.den / c * (g.den / s))) b same;
+      lowest = record {
+        reduced = record { denominator = mul-pos (pos_of_dvd_of_pos (factor_divides c (f.den / c) f.den b) low_f.denominator) (pos_of_dvd_of_pos (factor_divides s (g.den / s) g.den bottom) low_g.denominator); lowest = lowest };
+        same = subst (λ n. t / s * (n * g.den) ≡ (f.num * g.den + g.num * n) * (f.den / c * (g.den / s))) b same;
+        denominator = mul-pos low_f.denominator low_g.denominator;
+      };
       whole = sym top;
       small = le_of_dvd low_g.denominator in_d;
     }
@@ -110,18 +118,48 @@ pub SameNumber-from_gcd : (f : Fraction) (g : ℕ) → IsGcd f.num f.den g → S
 SameNumber-from_gcd f g common = divided f.num f.den (f.num / g) (f.den / g) g (mul-div_cancel' g common.0) (mul-div_cancel' g common.1)
 
 -- where a number has a fraction that fits, its lowest terms fit
-pub FitsU64-lowest : (f h g : Fraction) → 1 ≤ g.den → IsReduced f → SameNumber f g → IsFracOf h g → FitsU64 f
-FitsU64-lowest f h g some low same is =
+FitsU64-lowest : (f h g : Fraction) → IsLowestTermsOf f g → IsFracOf h g → FitsU64 f
+FitsU64-lowest f h g low is =
     let turned : SameNumber g h = sym is.same in
-    let one = same_from_SameNumber f h low is.frac.reduced (SameNumber-trans f g h some same turned) in
+    let one = same_from_SameNumber f h low.reduced is.frac.reduced (SameNumber-trans f g h low.denominator low.same turned) in
     subst FitsU64 (sym one) is.frac.fits
 
 -- a numerator past 128 bits has no sum that fits
-pub numerator_below : (f g : Fraction) (c t : ℕ) → IsReduced f → IsReduced g → g.den < 2 ^ 64 → IsGcd f.den g.den c → t ≡ f.num * (g.den / c) + g.num * (f.den / c) → (h : Fraction) × IsFracOf h (sum_of f g) → t < 2 ^ 128
+numerator_below : (f g : Fraction) (c t : ℕ) → IsReduced f → IsReduced g → g.den < 2 ^ 64 → IsGcd f.den g.den c → t ≡ f.num * (g.den / c) + g.num * (f.den / c) → (h : Fraction) × IsFracOf h (sum_of f g) → t < 2 ^ 128
 numerator_below f g c t low_f low_g small common sum found =
     let s = some_gcd (t % c) c in
     let k = IsKnuthSum-from_gcd f g c t s.0 low_f low_g common sum s.1 in
-    let fits = FitsU64-lowest (knuth_sum f g c t s.0) found.0 (sum_of f g) (mul-pos low_f.denominator low_g.denominator) k.reduced k.same found.1 in
+    let fits = FitsU64-lowest (knuth_sum f g c t s.0) found.0 (sum_of f g) k.lowest found.1 in
     let factor : s.0 < 2 ^ 64 = omega (arith, k.small) in
     let product : s.0 * (t / s.0) < 2 ^ 64 * 2 ^ 64 = mul-lt s.0 (t / s.0) (2 ^ 64) (2 ^ 64) factor fits.num in
     subst (λ n. n < 2 ^ 128) (sym k.whole) product
+
+-- Both of these speak of fractions i and j that are the values f and g.
+pub numerator_below_at : (i j f g : Fraction) (c t : ℕ) → i ≡ f → j ≡ g → IsReduced i → IsReduced j → j.den < 2 ^ 64 → IsGcd i.den j.den c → t ≡ i.num * (j.den / c) + j.num * (i.den / c) → (h : Fraction) × IsFracOf h (sum_of f g) → t < 2 ^ 128
+numerator_below_at i j f g c t first second low_i low_j small common sum found =
+    let found_j : (h : Fraction) × IsFracOf h (sum_of f j) = subst (λ y. (h : Fraction) × IsFracOf h (sum_of f y)) (sym second) found in
+    let found_i : (h : Fraction) × IsFracOf h (sum_of i j) = subst (λ x. (h : Fraction) × IsFracOf h (sum_of x j)) (sym first) found_j in
+    numerator_below i j c t low_i low_j small common sum found_i
+
+pub lowest_sum_at : (i j f g : Fraction) (c t s n d : ℕ) → i ≡ f → j ≡ g → IsReduced i → IsReduced j → IsGcd i.den j.den c → t ≡ i.num * (j.den / c) + j.num * (i.den / c) → IsGcd (t % c) c s → n ≡ t / s → d ≡ i.den / c * (j.den / s) → IsLowestTermsOf (record { num = n; den = d }) (sum_of f g)
+lowest_sum_at i j f g c t s n d first second low_i low_j common sum rest num den =
+    let k = IsKnuthSum-from_gcd i j c t s low_i low_j common sum rest in
+    let r : Fraction = record { num = n; den = d } in
+    let made : IsLowestTermsOf r (sum_of i j) = subst (λ x. IsLowestTermsOf x (sum_of i j)) (same_fraction (knuth_sum i j c t s) r (sym num) (sym den)) k.lowest in
+    subst (λ x. IsLowestTermsOf r (sum_of x g)) first (subst (λ y. IsLowestTermsOf r (sum_of i y)) second made)
+
+pub sum_by : (a b c d p q r s : ℕ) → a ≡ p → b ≡ q → c ≡ r → d ≡ s → a * b + c * d ≡ p * q + r * s
+sum_by a b c d p q r s ea eb ec ed = cc
+
+pub product_by : (a b p q : ℕ) → a ≡ p → b ≡ q → a * b ≡ p * q
+product_by a b p q ea eb = cc
+
+-- an answer that is r where r fits, for a number whose lowest terms are r
+pub value_where_fits : (o : Option Fraction) (r g : Fraction) → IsLowestTermsOf r g → IfSome o (λ f. f ≡ r) → IsSome o ↔ FitsU64 r → IfSome o (λ f. IsFracOf f g)
+value_where_fits None r g low value fits = tt
+value_where_fits (Some f) r g low value fits =
+    record { frac = record { reduced = subst IsReduced (sym value) low.reduced; fits = subst FitsU64 (sym value) (fits.0 refl) }; same = subst (λ x. SameNumber x g) (sym value) low.same }
+
+pub answer_where_fits : (o : Option Fraction) (r g : Fraction) → IsLowestTermsOf r g → IsSome o ↔ FitsU64 r → IsSome o ↔ ((h : Fraction) × IsFracOf h g)
+answer_where_fits o r g low fits =
+    (λ some. (r, record { frac = record { reduced = low.reduced; fits = fits.0 some }; same = low.same }), λ found. fits.1 (FitsU64-lowest r found.0 g low found.1))

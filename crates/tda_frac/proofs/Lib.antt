@@ -2,3 +2,4 @@ pub mod Divisors
 pub mod Fractions
 pub mod Multiples
 pub mod Narrow
+pub mod Products

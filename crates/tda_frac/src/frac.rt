@@ -1,9 +1,10 @@
 // Fractions in lowest terms.
 ghost use Rattle.std.specs.Prelude.{◌≡◌, ◌<◌, ◌≤◌, ◌^◌, ◌*◌, ◌++◌, ◌↔◌, ℕ, IfSome, IsSome, IsNone, IsTrue, OnOk, OnErr};
-ghost use Rattle.tda_frac.specs.Fraction.{Fraction, IsFrac, IsFracOf, IsAtMost, IsTextOf, sum_of, flipped, text_of, IsProduct};
+ghost use Rattle.tda_frac.specs.Fraction.{Fraction, IsReduced, FitsU64, IsFrac, IsFracOf, IsAtMost, IsTextOf, sum_of, flipped, text_of, IsProduct};
 
 use crate::NoMemory;
-use crate::whole::{gcd, read_whole};
+use crate::text::{read_whole, split_at_slash};
+use crate::whole::gcd;
 use itoa::Buffer;
 use std::alloc::AllocError;
 use std::marker::Model;
@@ -50,12 +51,8 @@ impl Frac {
         ensures valid { IsSome result ↔ ((g : Fraction) × IsTextOf bytes.now g) }
         ensures value { (g : Fraction) → IsTextOf bytes.now g → IfSome result (λ f. IsFracOf f g) }
     {
-        match bytes.iter().position(|byte| *byte == b'/') {
-            Some(at) => {
-                let num = read_whole(&bytes[..at])?;
-                let den = read_whole(&bytes[at + 1..])?;
-                Frac::new(num, den)
-            }
+        match split_at_slash(bytes) {
+            Some((num, den)) => Frac::new(read_whole(num)?, read_whole(den)?),
             None => Frac::new(read_whole(bytes)?, 1),
         }
     }
@@ -90,8 +87,17 @@ impl Frac {
         let sum = left.checked_add(right)?;
         let shared = gcd((sum % u128::from(common)) as u64, common);
         let den = u128::from(self.den / common) * u128::from(other.den / shared);
+        Frac::fitted(sum / u128::from(shared), den)
+    }
+
+    // The fraction of two numbers that are in lowest terms, where both are below 2^64.
+    fn fitted(num: u128, den: u128) -> Option<Frac>
+        requires { IsReduced (record { num = num; den = den }) }
+        ensures value { IfSome result (λ f. f ≡ record { num = num; den = den }) }
+        ensures fits { IsSome result ↔ FitsU64 (record { num = num; den = den }) }
+    {
         Some(Frac {
-            num: u64::try_from(sum / u128::from(shared)).ok()?,
+            num: u64::try_from(num).ok()?,
             den: u64::try_from(den).ok()?,
         })
     }

@@ -3,6 +3,7 @@
 
 mod frac;
 mod memory;
+mod text;
 mod whole;
 
 pub use frac::Frac;
