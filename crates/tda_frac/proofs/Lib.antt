@@ -3,3 +3,4 @@ pub mod Fractions
 pub mod Multiples
 pub mod Narrow
 pub mod Products
+pub mod Texts
