@@ -46,10 +46,10 @@ sum_lowest a c b' d' g t s T D some low_a low_c common sum top bottom shared =
     let split : D ≡ d' * (g / s) = eq_of_mul-eq-mul_left s some_s D (d' * (g / s)) (sym bottom ∙ ap (λ n. n * d') left ∙ regroup) in
     let sums : (x : ℕ) → x ∣ T → x ∣ a * d' + c * b' = λ x h. subst (λ n. x ∣ n) (sym top ∙ sum) (dvd-mul_left_of_dvd x h s) in
     coprime T (b' * D) (λ e over under.
-        let free_b : IsGcd e b' 1 = coprime e b' (λ x xe xb. sum_coprime a c b' d' g x low_a apart (sums x (dvd_trans x xe over)) xb) in
-        let free_d : IsGcd e d' 1 = coprime e d' (λ x xe xd. sum_coprime c a d' b' g x low_c (IsGcd-swap b' d' 1 apart) (subst (λ n. x ∣ n) (add_comm (a * d') (c * b')) (sums x (dvd_trans x xe over))) xd) in
-        let in_d : e ∣ D = dvd_of_coprime e b' D free_b under in
-        rest.2 e over (dvd_of_coprime e d' (g / s) free_d (subst (λ n. e ∣ n) split in_d)))
+    let free_b : IsGcd e b' 1 = coprime e b' (λ x xe xb. sum_coprime a c b' d' g x low_a apart (sums x (dvd_trans x xe over)) xb) in
+    let free_d : IsGcd e d' 1 = coprime e d' (λ x xe xd. sum_coprime c a d' b' g x low_c (IsGcd-swap b' d' 1 apart) (subst (λ n. x ∣ n) (add_comm (a * d') (c * b')) (sums x (dvd_trans x xe over))) xd) in
+    let in_d : e ∣ D = dvd_of_coprime e b' D free_b under in
+    rest.2 e over (dvd_of_coprime e d' (g / s) free_d (subst (λ n. e ∣ n) split in_d)))
 
 sum_same : (a c b' d d' g t s T D : ℕ) → t ≡ a * d' + c * b' → t ≡ s * T → d ≡ g * d' → d ≡ s * D → T * (g * b' * d) ≡ (a * d + c * (g * b')) * (b' * D)
 sum_same a c b' d d' g t s T D sum top common bottom =

@@ -69,11 +69,13 @@ positive_where_some (Some f) d none some =
 pub valid_of_parts : (bytes left right : List ℕ) (n d : ℕ) (o : Option Fraction) → bytes ≡ left ++ 47 ∷ right → All (λ b. b ≢ 47) left → left ≡ decimal n → right ≡ decimal d → n < 2 ^ 64 → d < 2 ^ 64 → IsNone o ↔ (d ≡ 0) → IsSome o ↔ ((g : Fraction) × IsTextOf bytes g)
 valid_of_parts bytes left right n d o whole plain num den fits_n fits_d none =
     let read : Fraction = record { num = n; den = d } in
-    let text : bytes ≡ text_of read = whole ∙ ap (λ l. l ++ 47 ∷ right) num ∙ ap (λ l. decimal n ++ 47 ∷ l) den in
-    (λ some. (read, record { written = inl text; denominator = positive_where_some o d none some; fits = record { num = fits_n; den = fits_d } }), λ found.
-        let parts = parts_of_text bytes left right found.0 whole plain found.1 in
-        let same : d ≡ found.0.den = decimal_injective d found.0.den fits_d found.1.fits.den (sym den ∙ parts.1) in
-        some_where_positive o d none (subst (λ k. 1 ≤ k) (sym same) found.1.denominator))
+    let text : bytes ≡ text_of read = whole ∙ ap (λ l. l ++ 47 ∷ right) num ∙ ap (λ l. decimal n ++ 47 ∷ l) den in (
+      λ some. (read, record { written = inl text; denominator = positive_where_some o d none some; fits = record { num = fits_n; den = fits_d } }),
+      λ found.
+          let parts = parts_of_text bytes left right found.0 whole plain found.1 in
+          let same : d ≡ found.0.den = decimal_injective d found.0.den fits_d found.1.fits.den (sym den ∙ parts.1) in
+          some_where_positive o d none (subst (λ k. 1 ≤ k) (sym same) found.1.denominator),
+    )
 
 pub value_of_parts : (bytes left right : List ℕ) (n d : ℕ) (o : Option Fraction) → bytes ≡ left ++ 47 ∷ right → All (λ b. b ≢ 47) left → left ≡ decimal n → right ≡ decimal d → n < 2 ^ 64 → d < 2 ^ 64 → IfSome o (λ f. IsFracOf f (record { num = n; den = d })) → (g : Fraction) → IsTextOf bytes g → IfSome o (λ f. IsFracOf f g)
 value_of_parts bytes left right n d o whole plain num den fits_n fits_d value g text =
