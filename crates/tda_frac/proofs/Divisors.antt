@@ -1,10 +1,10 @@
 -- Common divisors: a number that shares no divisor with one factor and divides a product divides the
 -- other factor.
-use Rattle.std.proofs.Common.{ℕ, zero, suc, ◌≡◌, ◌+◌, ◌*◌, ◌<◌, ◌≤◌, ◌%◌, ◌/◌, arith, refl, sym, subst, ap, ◌∙◌}
+use Rattle.std.proofs.Common.{ℕ, zero, suc, ◌≡◌, ◌+◌, ◌*◌, ◌<◌, ◌≤◌, ◌%◌, ◌/◌, arith, sym, subst, ap, ◌∙◌}
 use Rattle.std.specs.Int.{IsGcd, ◌∣◌}
-use Rattle.std.proofs.Math.Nat.{one-dvd, dvd-add, dvd-add_iff_right, dvd-add_iff_left, dvd-mul_left_of_dvd, dvd-mul_right_of_dvd, dvd-mul_right, dvd-mul_left, dvd_of_mul-dvd-mul_left, mul-dvd-mul_left, mul-one, one-mul, mul-div_cancel', pos_of_dvd_of_pos, mul_comm, eq_of_mul-eq-mul_left}
+use Rattle.std.proofs.Math.Nat.{one-dvd, dvd-add, dvd-add_iff_right, dvd-add_iff_left, dvd-mul_left_of_dvd, dvd-mul_right, dvd_of_mul-dvd-mul_left, mul-dvd-mul_left, mul-one, one-mul}
 use Rattle.std.proofs.lemmas.Nat.{div-add-mod', mod_below}
-use Rattle.std.proofs.lemmas.Nat.Gcd.{IsGcd-from_zero, IsGcd-swap, same_from_IsGcd, dvd_trans, dvd_refl}
+use Rattle.std.proofs.lemmas.Nat.Gcd.{IsGcd-from_zero, same_from_IsGcd, dvd_trans}
 
 -- one step of Euclid's algorithm, by quotient and rest
 IsGcd-from_step : (a b q r g : ℕ) → a ≡ q * b + r → IsGcd b r g → IsGcd a b g

@@ -1,10 +1,10 @@
 -- Fractions as rational numbers.
 use Rattle.std.proofs.Common.{ℕ, ◌≡◌, ◌+◌, ◌*◌, ◌^◌, ◌<◌, ◌≤◌, ◌/◌, ◌%◌, arith, refl, sym, subst, ap, ◌∙◌, ◌↔◌, Option, Some, None, IfSome, IsSome}
 use Rattle.std.specs.Int.{IsGcd, ◌∣◌}
-use Rattle.std.proofs.Math.Nat.{dvd-mul_left, dvd-mul_right, dvd-mul_left_of_dvd, mul-div_cancel', pos_of_dvd_of_pos, eq_of_mul-eq-mul_left, eq_of_mul-eq-mul_right, mul_comm, add_comm, mul-pos}
+use Rattle.std.proofs.Math.Nat.{dvd-mul_left, dvd-mul_left_of_dvd, mul-div_cancel', pos_of_dvd_of_pos, eq_of_mul-eq-mul_left, eq_of_mul-eq-mul_right, add_comm, mul-pos}
 use Rattle.std.proofs.lemmas.Nat.{mul-lt}
 use Rattle.std.proofs.lemmas.Nat.Gcd.{IsGcd-swap, IsGcd-from_mod, dvd_trans, dvd_antisymm, le_of_dvd}
-use Rattle.tda_frac.specs.Fraction.{Fraction, IsReduced, FitsU64, IsFrac, IsFracOf, SameNumber, sum_of}
+use Rattle.tda_frac.specs.Fraction.{Fraction, IsReduced, FitsU64, IsFracOf, SameNumber, sum_of}
 use Rattle.tda_frac.proofs.Divisors.{coprime, coprime_from_gcd, dvd_of_coprime, sum_coprime, some_gcd}
 
 pub same_fraction : (f g : Fraction) → f.num ≡ g.num → f.den ≡ g.den → f ≡ g
@@ -34,6 +34,16 @@ chained a b c d e k some first second =
 
 pub SameNumber-trans : (f g h : Fraction) → 1 ≤ g.den → SameNumber f g → SameNumber g h → SameNumber f h
 SameNumber-trans f g h some first second = chained f.num f.den g.num g.den h.num h.den some first second
+
+added : (a b c d p q r s : ℕ) → a * q ≡ p * b → c * s ≡ r * d → (a * d + c * b) * (q * s) ≡ (p * s + r * q) * (b * d)
+added a b c d p q r s first second =
+    let apart : (a * d + c * b) * (q * s) ≡ a * q * (d * s) + c * s * (b * q) = omega arith in
+    let joined : p * b * (d * s) + r * d * (b * q) ≡ (p * s + r * q) * (b * d) = omega arith in
+    apart ∙ ap (λ n. n * (d * s) + c * s * (b * q)) first ∙ ap (λ n. p * b * (d * s) + n * (b * q)) second ∙ joined
+
+-- sums of the same numbers are the same number
+pub SameNumber-sum_of : (f g x y : Fraction) → SameNumber f x → SameNumber g y → SameNumber (sum_of f g) (sum_of x y)
+SameNumber-sum_of f g x y first second = added f.num f.den g.num g.den x.num x.den y.num y.den first second
 
 -- a/b + c/d over the least common denominator g b' d', where t is the numerator and s what it shares with g
 sum_lowest : (a c b' d' g t s T D : ℕ) → 0 < g → IsGcd a (g * b') 1 → IsGcd c (g * d') 1 → IsGcd (g * b') (g * d') g → t ≡ a * d' + c * b' → t ≡ s * T → g * d' ≡ s * D → IsGcd t g s → IsGcd T (b' * D) 1

@@ -1,9 +1,9 @@
 -- The least common multiple of two numbers, by their greatest common divisor.
-use Rattle.std.proofs.Common.{ℕ, ◌≡◌, ◌+◌, ◌*◌, ◌<◌, ◌≤◌, ◌/◌, arith, refl, sym, subst, ap, ◌∙◌}
+use Rattle.std.proofs.Common.{ℕ, ◌≡◌, ◌*◌, ◌<◌, ◌/◌, arith, sym, subst, ap, ◌∙◌}
 use Rattle.std.specs.Int.{IsGcd, ◌∣◌}
 use Rattle.std.proofs.Math.Nat.{dvd-mul_left, dvd-mul_right, dvd_of_mul-dvd-mul_left, mul-dvd-mul_right, mul-div_cancel', div-mul_cancel}
 use Rattle.std.proofs.lemmas.Nat.Gcd.{dvd_antisymm}
-use Rattle.tda_frac.specs.Fraction.{IsLcm}
+use Rattle.tda_frac.specs.Whole.{IsLcm}
 use Rattle.tda_frac.proofs.Divisors.{coprime_from_gcd, dvd_of_coprime}
 
 same_product : (a b a' b' g : ℕ) → g * a' ≡ a → g * b' ≡ b → a * b' ≡ a' * b

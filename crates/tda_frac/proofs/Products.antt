@@ -1,5 +1,5 @@
 -- A fraction times a whole number.
-use Rattle.std.proofs.Common.{ℕ, ◌≡◌, ◌*◌, ◌≤◌, ◌/◌, ◌%◌, sym, subst, ap, ◌∙◌}
+use Rattle.std.proofs.Common.{ℕ, ◌≡◌, ◌*◌, ◌≤◌, ◌/◌, ◌%◌, sym, ap, ◌∙◌}
 use Rattle.std.proofs.Math.Nat.{eq_of_mul-eq-mul_right, div-mul_cancel, dvd_of_mod-eq-zero, mul-mod_left}
 use Rattle.tda_frac.specs.Fraction.{Fraction, IsProduct}
 

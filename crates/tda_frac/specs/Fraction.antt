@@ -2,7 +2,7 @@
 -- and their texts.
 use Rattle.std.specs.Prelude.{◌≡◌, ◌+◌, ◌*◌, ◌^◌, ◌<◌, ◌≤◌, ◌⊎◌, ℕ, List, ◌∷◌, ◌++◌}
 use Rattle.std.specs.Fmt.{decimal}
-use Rattle.std.specs.Int.{IsGcd, ◌∣◌}
+use Rattle.std.specs.Int.{IsGcd}
 
 -- num / den
 pub record Fraction : Type 0 where
@@ -28,6 +28,10 @@ pub record IsFrac (f : Fraction) : Type 0 where
 abbrev pub SameNumber : Fraction → Fraction → Type 0
 SameNumber f g = f.num * g.den ≡ g.num * f.den
 
+-- no other fraction in lowest terms is the same number
+abbrev pub IsOnlyReduced : Fraction → Type 0
+IsOnlyReduced f = (g : Fraction) → IsReduced g → SameNumber g f → g ≡ f
+
 -- f is at most g: the cross products are in that order
 abbrev pub IsAtMost : Fraction → Fraction → Type 0
 IsAtMost f g = f.num * g.den ≤ g.num * f.den
@@ -49,13 +53,7 @@ flipped f = record { num = f.den; den = f.num }
 abbrev pub IsProduct : Fraction → ℕ → ℕ → Type 0
 IsProduct f l w = w * f.den ≡ f.num * l
 
--- m is the least common multiple: a common multiple that divides each other one
-pub record IsLcm (a b m : ℕ) : Type 0 where
-  pub first : a ∣ m
-  pub second : b ∣ m
-  pub least : (k : ℕ) → a ∣ k → b ∣ k → m ∣ k
-
--- the text `n/d`, in canonical decimals
+-- The text `n/d`. `decimal n` is the canonical decimal of n: `0`, or a digit 1 to 9 and further digits.
 abbrev pub text_of : Fraction → List ℕ
 text_of f = decimal f.num ++ 47 ∷ decimal f.den
 

@@ -1,6 +1,6 @@
 // Fractions in lowest terms.
 ghost use Rattle.std.specs.Prelude.{◌≡◌, ◌<◌, ◌≤◌, ◌^◌, ◌*◌, ◌++◌, ◌↔◌, ℕ, IfSome, IsSome, IsNone, IsTrue, OnOk, OnErr};
-ghost use Rattle.tda_frac.specs.Fraction.{Fraction, IsReduced, FitsU64, IsFrac, IsFracOf, IsAtMost, IsTextOf, sum_of, flipped, text_of, IsProduct};
+ghost use Rattle.tda_frac.specs.Fraction.{Fraction, IsReduced, FitsU64, IsFrac, IsFracOf, IsOnlyReduced, IsAtMost, IsTextOf, sum_of, flipped, text_of, IsProduct};
 
 use crate::NoMemory;
 use crate::text::{read_whole, split_at_slash};
@@ -61,6 +61,7 @@ impl Frac {
     pub fn num(self) -> u64
         ensures value { result ≡ self.num }
         ensures reduced { IsFrac self }
+        ensures only { IsOnlyReduced self }
     {
         self.num
     }
@@ -69,6 +70,7 @@ impl Frac {
     pub fn den(self) -> u64
         ensures value { result ≡ self.den }
         ensures reduced { IsFrac self }
+        ensures only { IsOnlyReduced self }
     {
         self.den
     }

@@ -1,7 +1,7 @@
 // Divisors and multiples.
 ghost use Rattle.std.specs.Prelude.{◌<◌, ◌≤◌, ◌^◌, ◌↔◌, ℕ, IfSome, IsSome};
 ghost use Rattle.std.specs.Int.{IsGcd};
-ghost use Rattle.tda_frac.specs.Fraction.{IsLcm};
+ghost use Rattle.tda_frac.specs.Whole.{IsLcm};
 
 // The greatest common divisor, by remainders. That of 0 and 0 is 0.
 pub(crate) fn gcd(a: u64, b: u64) -> u64

@@ -1,5 +1,5 @@
 -- The bytes that a number is written as are text, which `parse` reads as that number.
-use Rattle.std.proofs.Common.{◌≡◌, ◌∙◌, arith, sym, subst, Ok}
+use Rattle.std.proofs.Common.{◌≡◌, ◌∙◌, arith, sym, subst}
 use Rattle.std.proofs.lemmas.Fmt.{parse-decimal, IsAscii-decimal}
 use Rattle.std.proofs.lemmas.Grind.{common_steps}
 use Rattle.std.proofs.lemmas.Slice.Eq.{bytes_eq-Decides}

@@ -1,7 +1,6 @@
-use Rattle.std.proofs.Common.{ℕ, ◌≤◌, arith}
+use Rattle.std.proofs.Common.{arith}
 use Rattle.std.proofs.Math.Nat.{pos_of_dvd_of_pos}
 use Rattle.std.proofs.lemmas.Nat.Gcd.{IsGcd-from_zero, IsGcd-from_mod}
-use Rattle.std.specs.Int.{IsGcd}
 use Rattle.tda_frac.proofs.whole.gcd.Goals as goal
 
 pub loop-divisor-preserved : goal.loop-divisor-preserved

@@ -1,6 +1,6 @@
 use Rattle.tda_frac.proofs.Multiples.{IsLcm-product, IsLcm-unique}
 use Rattle.tda_frac.proofs.Narrow.{value_of_narrow, fits_of_narrow}
-use Rattle.tda_frac.specs.Fraction.{IsLcm}
+use Rattle.tda_frac.specs.Whole.{IsLcm}
 use Rattle.tda_frac.proofs.whole.lcm.Goals as goal
 
 pub returns-clause-multiple : goal.returns-clause-multiple

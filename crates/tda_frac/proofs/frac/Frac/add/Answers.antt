@@ -1,7 +1,7 @@
-use Rattle.std.proofs.Common.{◌≡◌, ◌<◌, ◌+◌, ◌*◌, ◌^◌, ◌/◌, ◌%◌, arith, sym, subst, ap, ◌∙◌}
+use Rattle.std.proofs.Common.{◌≡◌, ◌<◌, ◌+◌, ◌*◌, ◌^◌, ◌/◌, ◌%◌, arith, subst, ap, ◌∙◌}
 use Rattle.std.proofs.lemmas.Bool.{false≢true}
 use Rattle.std.specs.Int.{IsGcd}
-use Rattle.tda_frac.specs.Fraction.{Fraction, sum_of}
+use Rattle.tda_frac.specs.Fraction.{sum_of}
 use Rattle.tda_frac.proofs.Fractions.{numerator_below_at, lowest_sum_at, value_where_fits, answer_where_fits, sum_by, product_by}
 use Rattle.tda_frac.proofs.frac.Frac.add.Goals as goal
 

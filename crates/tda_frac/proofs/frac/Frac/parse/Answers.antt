@@ -1,4 +1,4 @@
-use Rattle.std.proofs.Common.{◌≡◌, ◌<◌, ◌^◌, arith}
+use Rattle.std.proofs.Common.{◌<◌, ◌^◌, arith}
 use Rattle.std.proofs.lemmas.Bool.{false≢true}
 use Rattle.tda_frac.proofs.Texts.{parts_of_text, whole_of_text, valid_of_parts, value_of_parts, valid_of_whole, value_of_whole}
 use Rattle.tda_frac.proofs.frac.Frac.parse.Goals as goal
