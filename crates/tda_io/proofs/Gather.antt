@@ -1,6 +1,6 @@
 -- The rows that were read so far, and those that a reader has left.
-use Rattle.std.proofs.Common.{◌≡◌, ◌≢◌, ◌+◌, ◌*◌, ◌<◌, ◌≤◌, ◌++◌, ◌∷◌, [], ℕ, List, Bor, Bool, true, false, length, Option, Some, None, refl, sym, ap, ◌∙◌, arith}
-use Rattle.std.proofs.lemmas.List.{append_assoc, append-nil, length-append}
+use Rattle.std.proofs.Common.{◌≡◌, ◌≢◌, ◌+◌, ◌*◌, ◌<◌, ◌≤◌, ◌++◌, ◌∷◌, [], ℕ, List, Bor, true, false, length, Option, Some, None, refl, sym, ap, ◌∙◌, arith}
+use Rattle.std.proofs.lemmas.List.{append_assoc, append-nil}
 use Rattle.csv.specs.Reading.{ReadRecord, Ready, default_config, source_of, strip_bom}
 use Rattle.csv.specs.Records.{Rising, cut_from, last_end}
 use Rattle.csv.specs.declared.parser.State.TheVariants as st
@@ -10,7 +10,7 @@ use Rattle.csv.proofs.RecordFacts.{cut-length}
 use Rattle.tda_io.specs.Rows.{bad_width, rows_of}
 use Rattle.tda_io.specs.Table.{row_size, table_rows, IsTable}
 use Rattle.tda_io.proofs.AllRows.{Reads, last, next, rest_of, strip_bom-shorter}
-use Rattle.tda_io.proofs.Tables.{even, length-rows_by, more_rows, uneven}
+use Rattle.tda_io.proofs.Tables.{even, more_rows, uneven}
 
 abbrev pub size_of : Option (List ℕ) → ℕ
 size_of None = 0

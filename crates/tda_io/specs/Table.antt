@@ -1,5 +1,5 @@
 -- Rows of one width, kept as the bytes of all fields and the places where the fields end.
-use Rattle.std.specs.Prelude.{◌≡◌, ◌+◌, ◌*◌, ◌≤◌, ℕ, zero, suc, List, [], ◌∷◌, length, take, drop}
+use Rattle.std.specs.Prelude.{◌≡◌, ◌+◌, ◌*◌, ℕ, zero, suc, List, [], ◌∷◌, length, take, drop}
 use Rattle.csv.specs.Records.{cut_from, Rising}
 
 -- as many rows of these fields, each so wide

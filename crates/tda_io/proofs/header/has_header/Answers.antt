@@ -1,6 +1,5 @@
-use Rattle.std.proofs.Common.{◌≡◌, ◌<◌, ◌∙◌, sym, ap, refl, length, map, arith, []}
+use Rattle.std.proofs.Common.{◌∙◌, sym, refl, arith, []}
 use Rattle.std.proofs.lemmas.List.{length-map}
-use Rattle.tda_io.specs.Rows.{row_width}
 use Rattle.tda_io.specs.Csv.{has_header}
 use Rattle.tda_io.proofs.Headers.{no_header, other_header, texts_of, goes_on, stops}
 use Rattle.tda_io.proofs.header.has_header.Goals as goal
