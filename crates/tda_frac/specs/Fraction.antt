@@ -1,5 +1,5 @@
 -- Fractions of natural numbers as rational numbers: when two are equal, which is greater, their sum,
--- and their texts.
+-- and their texts. A fraction is a number where its denominator is at least 1.
 use Rattle.std.specs.Prelude.{◌≡◌, ◌+◌, ◌*◌, ◌^◌, ◌<◌, ◌≤◌, ◌⊎◌, ℕ, List, ◌∷◌, ◌++◌}
 use Rattle.std.specs.Fmt.{decimal}
 use Rattle.std.specs.Int.{IsGcd}
@@ -46,16 +46,20 @@ abbrev pub sum_of : Fraction → Fraction → Fraction
 sum_of f g = record { num = f.num * g.den + g.num * f.den; den = f.den * g.den }
 
 -- one over f
-abbrev pub flipped : Fraction → Fraction
-flipped f = record { num = f.den; den = f.num }
+abbrev pub reciprocal_of : Fraction → Fraction
+reciprocal_of f = record { num = f.den; den = f.num }
 
 -- the number w is f times l
 abbrev pub IsProduct : Fraction → ℕ → ℕ → Type 0
 IsProduct f l w = w * f.den ≡ f.num * l
 
+-- the byte `/`
+abbrev pub slash : ℕ
+slash = 47
+
 -- The text `n/d`. `decimal n` is the canonical decimal of n: `0`, or a digit 1 to 9 and further digits.
 abbrev pub text_of : Fraction → List ℕ
-text_of f = decimal f.num ++ 47 ∷ decimal f.den
+text_of f = decimal f.num ++ slash ∷ decimal f.den
 
 -- a text that is read as f: `n/d`, or `n` alone for n/1, in canonical decimals of a u64, with d at
 -- least 1, in lowest terms or not

@@ -1,12 +1,11 @@
 // Fractions in lowest terms.
 ghost use Rattle.std.specs.Prelude.{◌≡◌, ◌<◌, ◌≤◌, ◌^◌, ◌*◌, ◌++◌, ◌↔◌, ℕ, IfSome, IsSome, IsNone, IsTrue, OnOk, OnErr};
-ghost use Rattle.tda_frac.specs.Fraction.{Fraction, IsReduced, FitsU64, IsFrac, IsFracOf, IsOnlyReduced, IsAtMost, IsTextOf, sum_of, flipped, text_of, IsProduct};
+ghost use Rattle.tda_frac.specs.Fraction.{Fraction, IsReduced, FitsU64, IsFrac, IsFracOf, IsOnlyReduced, IsAtMost, IsTextOf, sum_of, reciprocal_of, text_of, IsProduct};
 
 use crate::NoMemory;
 use crate::text::{read_whole, split_at_slash};
 use crate::whole::gcd;
 use itoa::Buffer;
-use std::alloc::AllocError;
 use std::marker::Model;
 
 /// A fraction of two numbers below 2^64 in lowest terms, with a denominator of at least 1. Two are
@@ -77,8 +76,9 @@ impl Frac {
 
     /// The exact sum. None exactly where the sum in lowest terms has a number of 2^64 or more.
     ///
-    /// By Knuth's method: where the sum is taken over the least common denominator, what is left to
-    /// cancel divides the greatest common divisor of the denominators.
+    /// By Knuth's method (The Art of Computer Programming, volume 2, section 4.5.1): where the sum is
+    /// taken over the least common denominator, what is left to cancel divides the greatest common
+    /// divisor of the denominators. So a numerator of 2^128 or more has no sum that fits.
     pub fn add(self, other: Frac) -> Option<Frac>
         ensures sum { IfSome result (λ f. IsFracOf f (sum_of self other)) }
         ensures fits { IsSome result ↔ ((f : Fraction) × IsFracOf f (sum_of self other)) }
@@ -89,11 +89,11 @@ impl Frac {
         let sum = left.checked_add(right)?;
         let shared = gcd((sum % u128::from(common)) as u64, common);
         let den = u128::from(self.den / common) * u128::from(other.den / shared);
-        Frac::fitted(sum / u128::from(shared), den)
+        Frac::from_lowest_terms(sum / u128::from(shared), den)
     }
 
     // The fraction of two numbers that are in lowest terms, where both are below 2^64.
-    fn fitted(num: u128, den: u128) -> Option<Frac>
+    fn from_lowest_terms(num: u128, den: u128) -> Option<Frac>
         requires { IsReduced (record { num = num; den = den }) }
         ensures value { IfSome result (λ f. f ≡ record { num = num; den = den }) }
         ensures fits { IsSome result ↔ FitsU64 (record { num = num; den = den }) }
@@ -104,7 +104,7 @@ impl Frac {
         })
     }
 
-    /// Whether this is at most the other.
+    /// Whether this is at most the other, as rational numbers. The cross products stay below 2^128.
     pub fn le(self, other: Frac) -> bool
         ensures { IsTrue result ↔ IsAtMost self other }
     {
@@ -114,7 +114,7 @@ impl Frac {
     /// One over this fraction. None exactly at 0.
     pub fn flip(self) -> Option<Frac>
         ensures none { IsNone result ↔ (self.num ≡ 0) }
-        ensures value { IfSome result (λ f. IsFracOf f (flipped self)) }
+        ensures value { IfSome result (λ f. IsFracOf f (reciprocal_of self)) }
     {
         if self.num == 0 {
             return None;

@@ -1,4 +1,5 @@
-//! Exact fractions of 64-bit numbers in lowest terms: reading, adding, comparing and writing them.
+//! Exact fractions of 64-bit numbers in lowest terms: reading, adding, comparing and writing them,
+//! and least common multiples for their denominators.
 #![tactic(auto)]
 
 mod frac;

@@ -2,7 +2,7 @@ use crate::{Frac, lcm};
 
 const MOST: u64 = u64::MAX;
 
-fn added(left: (u64, u64), right: (u64, u64)) -> Option<(u64, u64)> {
+fn sum_of(left: (u64, u64), right: (u64, u64)) -> Option<(u64, u64)> {
     let left = Frac::new(left.0, left.1)?;
     let right = Frac::new(right.0, right.1)?;
     let sum = left.add(right)?;
@@ -15,7 +15,7 @@ fn is_at_most(left: (u64, u64), right: (u64, u64)) -> Option<bool> {
     Some(left.le(right))
 }
 
-fn flipped(num: u64, den: u64) -> Option<(u64, u64)> {
+fn flip_of(num: u64, den: u64) -> Option<(u64, u64)> {
     let one_over = Frac::new(num, den)?.flip()?;
     Some((one_over.num(), one_over.den()))
 }
@@ -25,6 +25,7 @@ fn fractions(rt: HostRuntime) {
     let texts = [
         ("6/4", Some((3, 2))),
         ("1/0", None),
+        ("0/0", None),
         ("0/5", Some((0, 1))),
         ("0", Some((0, 1))),
         ("7", Some((7, 1))),
@@ -33,6 +34,7 @@ fn fractions(rt: HostRuntime) {
         ("18446744073709551616", None),
         ("100000000000000000000", None),
         ("100000000000000000000/1", None),
+        ("00", None),
         ("01", None),
         ("1/02", None),
         ("+1", None),
@@ -60,14 +62,15 @@ fn fractions(rt: HostRuntime) {
         ((MOST, MOST - 1), (MOST - 1, MOST), None),
     ];
     for (left, right, want) in sums {
-        assert_eq!(rt; added(left, right), want, "at {left:?} and {right:?}");
+        assert_eq!(rt; sum_of(left, right), want, "at {left:?} and {right:?}");
     }
 
+    assert_eq!(rt; is_at_most((0, 7), (0, 1)), Some(true));
     assert_eq!(rt; is_at_most((2, 4), (1, 2)), Some(true));
     assert_eq!(rt; is_at_most((1, MOST), (1, MOST - 1)), Some(true));
     assert_eq!(rt; is_at_most((1, MOST - 1), (1, MOST)), Some(false));
-    assert_eq!(rt; flipped(6, 4), Some((2, 3)));
-    assert_eq!(rt; flipped(0, 4), None);
+    assert_eq!(rt; flip_of(6, 4), Some((2, 3)));
+    assert_eq!(rt; flip_of(0, 4), None);
 
     let weights = [
         ((1, 3), 4, None),

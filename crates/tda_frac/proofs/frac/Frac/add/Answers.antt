@@ -14,8 +14,8 @@ returns-in_err-sum-clause-fits c =
     let small : j.den < 2 ^ 64 = omega arith in
     (λ some. absurd (false≢true (rw c.from_residual.ensures at some)), λ found. absurd (c.in_err-sum.ensures (numerator_below_at _ _ c.args.self c.args.other common _ c.self.view_is c.other.view_is c.self.invariant c.other.invariant small c.gcd-common.ensures.divisor sum found)))
 
-pub fitted-requires : goal.fitted-requires
-fitted-requires c =
+pub from_lowest_terms-requires : goal.from_lowest_terms-requires
+from_lowest_terms-requires c =
     let common = c.gcd-common.result in
     let s = c.gcd-shared.result in
     let t = c.in_ok-sum.sum in
@@ -39,7 +39,7 @@ returns-clause-sum c =
     let num : t / c.from-8.result ≡ t / s = ap (λ m. t / m) c.from-8.ensures in
     let den = product_by _ _ (i.den / common) (j.den / s) c.from-6.ensures c.from-7.ensures in
     let lowest = lowest_sum_at _ _ c.args.self c.args.other common t s _ _ c.self.view_is c.other.view_is c.self.invariant c.other.invariant c.gcd-common.ensures.divisor sum rest num den in
-    value_where_fits c.fitted.result _ (sum_of c.args.self c.args.other) lowest c.fitted.ensures.value c.fitted.ensures.fits
+    value_where_fits c.from_lowest_terms.result _ (sum_of c.args.self c.args.other) lowest c.from_lowest_terms.ensures.value c.from_lowest_terms.ensures.fits
 
 pub returns-clause-fits : goal.returns-clause-fits
 returns-clause-fits c =
@@ -53,4 +53,4 @@ returns-clause-fits c =
     let num : t / c.from-8.result ≡ t / s = ap (λ m. t / m) c.from-8.ensures in
     let den = product_by _ _ (i.den / common) (j.den / s) c.from-6.ensures c.from-7.ensures in
     let lowest = lowest_sum_at _ _ c.args.self c.args.other common t s _ _ c.self.view_is c.other.view_is c.self.invariant c.other.invariant c.gcd-common.ensures.divisor sum rest num den in
-    answer_where_fits c.fitted.result _ (sum_of c.args.self c.args.other) lowest c.fitted.ensures.fits
+    answer_where_fits c.from_lowest_terms.result _ (sum_of c.args.self c.args.other) lowest c.from_lowest_terms.ensures.fits

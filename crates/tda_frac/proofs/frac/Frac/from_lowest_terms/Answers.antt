@@ -2,7 +2,7 @@ use Rattle.std.proofs.Common.{◌≡◌, Some, sym, subst}
 use Rattle.tda_frac.specs.Fraction.{Fraction, IsReduced}
 use Rattle.tda_frac.proofs.Fractions.{same_fraction}
 use Rattle.tda_frac.proofs.Narrow.{SomeIff-result_ok}
-use Rattle.tda_frac.proofs.frac.Frac.fitted.Goals as goal
+use Rattle.tda_frac.proofs.frac.Frac.from_lowest_terms.Goals as goal
 
 pub invariant_of-result : goal.invariant_of-result
 invariant_of-result c =
