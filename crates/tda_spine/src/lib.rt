@@ -1,0 +1,7 @@
+//! The spine: the tree of units, read from a file and judged.
+#![tactic(auto)]
+
+mod fault;
+mod unit;
+
+pub use fault::SpineFault;
