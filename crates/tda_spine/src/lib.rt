@@ -3,6 +3,7 @@
 
 mod fault;
 mod index;
+mod rows;
 mod unit;
 
 pub use fault::SpineFault;
