@@ -1,3 +1,4 @@
+pub mod Draft
 pub mod Index
 pub mod Indexed
 pub mod Judged

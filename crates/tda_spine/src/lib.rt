@@ -1,6 +1,7 @@
 //! The spine: the tree of units, read from a file and judged.
 #![tactic(auto)]
 
+mod draft;
 mod fault;
 mod index;
 mod rows;
