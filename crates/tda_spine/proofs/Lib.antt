@@ -1,2 +1,4 @@
 pub mod Codes
 pub mod Places
+pub mod Numbers
+pub mod Children

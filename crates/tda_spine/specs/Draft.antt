@@ -1,5 +1,5 @@
 -- A spine, and how many children each of its units has.
-use Rattle.std.specs.Prelude.{◌≡◌, ◌==◌, ℕ, ◌<◌, ◌^◌, Bool, false, List, length, slice_index, Option, Some, None, count_by}
+use Rattle.std.specs.Prelude.{◌≡◌, ◌==◌, ℕ, ◌<◌, ◌^◌, Bool, false, List, length, slice_index, All, Option, Some, None, count_by}
 use Rattle.tda_model.specs.Spine.{Spine, SpineUnit, children_of, IsUnit}
 
 -- the unit's parent is p
@@ -15,7 +15,8 @@ pub record AreCounted (units : List SpineUnit) (counts : List ℕ) : Type 0 wher
   pub long : length counts ≡ length units
   pub each : (p : ℕ) → p < length units → slice_index counts p ≡ count_by (names_parent p) units
 
--- not too many units, of which the children are counted
-pub record IsDraft (units : List SpineUnit) (counts : List ℕ) : Type 0 where
+-- units of these levels, not too many, of which the children are counted
+pub record IsDraft (depth : ℕ) (units : List SpineUnit) (counts : List ℕ) : Type 0 where
   pub few : length units < 2 ^ 30
+  pub within : All (λ x. x.level < depth) units
   pub counted : AreCounted units counts

@@ -46,11 +46,14 @@ has_too_many s sp =
 abbrev pub is_too_large : FitSize → Bool
 is_too_large size = nat_lt nodes_limit size.nodes || nat_lt arcs_limit size.arcs
 
+-- the fit of a unit's children is
+abbrev pub has_large_split : Schema → Spine → ℕ → Bool
+has_large_split s sp u = is_inner sp u && is_too_large (fit_size s sp (Some u))
+
 -- the fit of the nation is too large, or that of the children of a unit
 abbrev pub has_large_fit : Schema → Spine → Bool
 has_large_fit s sp =
-    is_too_large (fit_size s sp None)
-    || list_any (λ u. is_inner sp u && is_too_large (fit_size s sp (Some u))) (unit_numbers sp)
+    is_too_large (fit_size s sp None) || list_any (has_large_split s sp) (unit_numbers sp)
 
 -- the fault of a spine as a whole
 abbrev pub spine_fault : Schema → Spine → Option SpineFault

@@ -4,7 +4,10 @@
 mod draft;
 mod fault;
 mod index;
+mod judge;
 mod rows;
+mod size;
 mod unit;
+mod units;
 
 pub use fault::SpineFault;
