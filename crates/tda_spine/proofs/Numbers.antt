@@ -36,6 +36,25 @@ pub count_more : {X : Type 0} (p : X → Bool) (xs : List X) (i : ℕ) (d : X) �
     → count_by p (take (i + 1) xs) ≡ count_by p (take i xs) + cond (p (get_or xs i d)) 1 0
 count_more p xs i d below = sum_by_more (λ y. cond (p y) 1 0) xs i d below
 
+-- a count over numbers
+count_next : (p : ℕ → Bool) (n k : ℕ) → k < n
+    → count_by p (take (k + 1) (range_with_len 0 n)) ≡ count_by p (take k (range_with_len 0 n)) + cond (p k) 1 0
+count_next p n k below =
+    count_more p (range_with_len 0 n) k 0 (omega (arith, length-range_with_len 0 n))
+    ∙ ap (λ u. count_by p (take k (range_with_len 0 n)) + cond (p u) 1 0) (get_or-range_with_len 0 n k 0 below ∙ omega arith)
+
+pub count_next-yes : (p : ℕ → Bool) (n k : ℕ) → k < n → p k ≡ true
+    → count_by p (take (k + 1) (range_with_len 0 n)) ≡ count_by p (take k (range_with_len 0 n)) + 1
+count_next-yes p n k below passes = count_next p n k below ∙ ap (λ b. count_by p (take k (range_with_len 0 n)) + cond b 1 0) passes
+
+pub count_next-no : (p : ℕ → Bool) (n k : ℕ) → k < n → p k ≡ false
+    → count_by p (take (k + 1) (range_with_len 0 n)) ≡ count_by p (take k (range_with_len 0 n)) + 0
+count_next-no p n k below fails = count_next p n k below ∙ ap (λ b. count_by p (take k (range_with_len 0 n)) + cond b 1 0) fails
+
+pub count_all : (p : ℕ → Bool) (n k : ℕ) → n ≤ k → count_by p (take k (range_with_len 0 n)) ≡ length (filter p (range_with_len 0 n))
+count_all p n k all =
+    ap (count_by p) (take_all k (range_with_len 0 n) (omega (arith, length-range_with_len 0 n))) ∙ sym (length-filter p (range_with_len 0 n))
+
 -- a loop over numbers that ends at the first that passes
 module _ (p : ℕ → Bool) (n : ℕ) where
   pub none_so_far : (u : ℕ) → u < n → p u ≡ false → list_any p (take u (range_with_len 0 n)) ≡ false

@@ -7,7 +7,7 @@ use Rattle.tda_model.specs.Schema.{Schema}
 use Rattle.tda_model.specs.Cells.{cell_count}
 use Rattle.tda_model.specs.Spine.{Spine, level_of, units_at, children_of, unit_numbers}
 use Rattle.tda_model.specs.Sizes.{FitSize, fit_size, place_count, units_limit, counts_limit, places_limit, nodes_limit, arcs_limit}
-use Rattle.tda_spine.specs.Rows.{is_bad_code, is_repeated, has_unknown_parent, has_wrong_level, spine_of}
+use Rattle.tda_spine.specs.Rows.{is_bad_code, is_repeated, has_unknown_parent, has_wrong_level, spine_in}
 use Rattle.tda_spine.specs.declared.fault.SpineFault.{SpineFault}
 use Rattle.tda_spine.specs.declared.fault.SpineFault.TheVariants.{NotYet}
 
@@ -70,8 +70,8 @@ format s = record {
   bad_header = λ row. NotYet;
   header = codes "unit" ∷ codes "level" ∷ codes "parent" ∷ [];
   row_fault = row_fault s;
-  file_fault = λ rows. spine_fault s (spine_of s rows);
-  value = spine_of s;
+  file_fault = λ rows. spine_fault s (spine_in s rows);
+  value = spine_in s;
 }
 
 -- the spine that a text is, or its fault

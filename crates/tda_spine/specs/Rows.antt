@@ -69,5 +69,5 @@ unit_of s rows row = record {
 }
 
 -- the spine of rows: a unit for each, in order
-abbrev pub spine_of : Schema → List Row → Spine
-spine_of s rows = record { depth = length s.levels; units = map (unit_of s rows) rows }
+abbrev pub spine_in : Schema → List Row → Spine
+spine_in s rows = record { depth = length s.levels; units = map (unit_of s rows) rows }

@@ -1,5 +1,5 @@
 // A spine that is still to be judged as a whole.
-ghost use Rattle.std.specs.Prelude.{◌≡◌, ◌+◌, ◌<◌, ◌^◌, ℕ, length, nat_lt, All, IfOk, slice_index, if◌then◌else◌};
+ghost use Rattle.std.specs.Prelude.{◌≡◌, ◌+◌, ◌<◌, ◌^◌, ℕ, Some, None, length, nat_lt, All, IfOk, slice_index, if◌then◌else◌};
 ghost use Rattle.tda_model.specs.Spine.{units_at, children_of, level_of, IsUnit};
 ghost use Rattle.tda_model.specs.Sizes.{place_count, places_limit};
 ghost use Rattle.tda_spine.specs.Draft.{AreCounted, ParentIsBelow, names_parent};
@@ -128,12 +128,14 @@ impl Draft {
         self.count_at(0) != 1
     }
 
-    /// Whether a unit stands above the last level.
-    pub(crate) fn is_inner(&self, unit: usize) -> bool
+    /// The level just below a unit's, and none at the last level.
+    pub(crate) fn level_below(&self, unit: usize) -> Option<usize>
         requires { IsUnit self.now unit }
-        ensures { result ≡ spec.is_inner self.now unit }
+        ensures { result ≡ (if spec.is_inner self.now unit then Some (level_of self.now unit + 1) else None) }
     {
-        self.level(unit) + 1 < self.depth
+        let depth = self.depth;
+        let below = self.level(unit) + 1;
+        if below < depth { Some(below) } else { None }
     }
 
     /// Whether a unit above the last level has no child.
@@ -141,7 +143,7 @@ impl Draft {
         requires { IsUnit self.now unit }
         ensures { result ≡ spec.is_childless self.now unit }
     {
-        self.is_inner(unit) && self.children(unit) == 0
+        self.level_below(unit).is_some() && self.children(unit) == 0
     }
 
     /// Whether some unit above the last level has no child.

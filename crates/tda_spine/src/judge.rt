@@ -14,7 +14,7 @@ fn parent_level(schema: &Schema, rows: &SpineRows, row: usize) -> Option<usize>
     ensures { result ≡ spec.parent_level schema.now rows.now (slice_index_or rows.now row []) }
 {
     let place = rows.parent_place(row)?;
-    schema.find_level(rows.level(place))
+    schema.find_level(rows.level(place as usize))
 }
 
 // Whether a level goes with whether a parent is named, and with the level of the parent's row.

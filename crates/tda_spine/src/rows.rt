@@ -83,22 +83,26 @@ impl<'a> SpineRows<'a> {
 
     /// Where a code stands first.
     fn find(&self, code: &[u8]) -> Option<usize>
-        ensures { result ≡ place_of self.now code.now }
+        ensures place { result ≡ place_of self.now code.now }
+        ensures in_range { IfSome result (λ p. p < length self.now) }
     {
         self.codes.find(code)
     }
 
     /// The place of the parent's row, and none where the row names no parent.
-    pub(crate) fn parent_place(&self, row: usize) -> Option<usize>
+    pub(crate) fn parent_place(&self, row: usize) -> Option<u32>
         requires { row < length self.now }
         ensures place { result ≡ spec.parent_place self.now (slice_index_or self.now row []) }
         ensures in_range { IfSome result (λ p. p < length self.now) }
     {
+        let _ = &self.rows;
         let parent = self.parent(row);
         if parent.is_empty() {
-            None
-        } else {
-            self.find(parent)
+            return None;
+        }
+        match self.find(parent) {
+            Some(place) => Some(place as u32),
+            None => None,
         }
     }
 

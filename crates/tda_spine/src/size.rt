@@ -85,12 +85,14 @@ fn has_large_split(schema: &Schema, draft: &Draft, unit: usize, possible: u64) -
     requires few { possible < 2 ^ 32 }
     ensures { result ≡ spec.has_large_split schema.now draft.now unit }
 {
-    draft.is_inner(unit)
-        && is_large_split(
+    match draft.level_below(unit) {
+        Some(level) => is_large_split(
             u64::from(draft.children(unit)),
             possible,
-            u64::from(schema.groups(draft.level(unit) + 1)),
-        )
+            u64::from(schema.groups(level)),
+        ),
+        None => false,
+    }
 }
 
 /// Whether a fit is too large.

@@ -32,7 +32,7 @@ fn unit_of(
 {
     let code = String::from_str(alloc, text_of(rows.code(row)))?;
     let level = schema.find_level(rows.level(row)).unwrap_or(0);
-    let parent = rows.parent_place(row).map(|place| place as u32);
+    let parent = rows.parent_place(row);
     Ok(SpineUnit {
         code,
         level,

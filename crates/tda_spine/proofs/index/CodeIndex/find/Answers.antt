@@ -1,5 +1,5 @@
 use Rattle.std.proofs.Common.{◌∙◌}
-use Rattle.tda_spine.proofs.Codes.{lookup-codes}
+use Rattle.tda_spine.proofs.Finds.{lookup-codes}
 use Rattle.tda_spine.proofs.index.CodeIndex.find.Goals as goal
 
 pub returns : goal.returns
