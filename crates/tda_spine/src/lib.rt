@@ -1,0 +1,9 @@
+//! The spine: reads it and tells its units.
+#![tactic(auto)]
+
+mod lists;
+mod spine;
+mod tree;
+mod unit;
+
+pub use spine::Spine;

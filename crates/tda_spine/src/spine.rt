@@ -1,0 +1,2 @@
+// The spine.
+pub struct Spine {}
