@@ -2,7 +2,11 @@
 use Rattle.std.specs.Prelude.{ℕ, ◌≡◌, ◌<◌, ◌≤◌, ◌^◌, length, List, map, Option, position}
 use Rattle.std.specs.List.{range_with_len}
 use Rattle.std.specs.Str.{bytes_eq}
-use Rattle.tda_model.specs.Spine.{Spine, IsUnit, IsTree, nation_of, code_of, unit_numbers, children_of, units_at, blocks_of}
+use Rattle.tda_model.specs.Spine.{Spine, SpineUnit, IsUnit, IsTree, nation_of, code_of, unit_numbers, children_of, units_at, blocks_of}
+
+-- the spine of these units
+abbrev pub spine_of : ℕ → List SpineUnit → Spine
+spine_of depth units = record { depth = depth; units = units }
 
 -- a tree of few units, no two of one code
 pub record IsSound (sp : Spine) : Type 0 where
