@@ -1,2 +1,3 @@
 pub mod Grouped
 pub mod Units
+pub mod Walks

@@ -1,0 +1,47 @@
+-- The lists of a spine by their numbers, and the walk over them.
+use Rattle.std.proofs.Common.{◌≡◌, ℕ, zero, suc, ◌-◌, ◌<◌, List, [], ◌∷◌, length, get_or, refl, sym, ap, ◌∙◌, subst, arith}
+use Rattle.std.specs.List.{flat_map}
+use Rattle.std.proofs.lemmas.List.FromFn.{length-map-range_with_len, get_or-map-range_with_len}
+use Rattle.tda_model.specs.Spine.{Spine, children_of, units_at, blocks_of, is_child, preorder_from}
+use Rattle.tda_model.proofs.Sums.{Each, each_filter, each_range}
+use Rattle.tda_spine.specs.Sound.{children_lists, level_lists, block_lists}
+
+each_get : (P : ℕ → Type 0) (xs : List ℕ) (k : ℕ) → Each P xs → k < length xs → P (get_or xs k 0)
+each_get P [] k h lt = absurd (omega arith)
+each_get P (x ∷ xs) zero h lt = h.0
+each_get P (x ∷ xs) (suc k) h lt = each_get P xs k h.1 (omega arith)
+
+module _ (sp : Spine) where
+  pub children_length : length (children_lists sp) ≡ length sp.units
+  children_length = length-map-range_with_len (children_of sp) 0 (length sp.units)
+
+  pub children_get : (u : ℕ) → u < length sp.units → get_or (children_lists sp) u [] ≡ children_of sp u
+  children_get u lt = get_or-map-range_with_len (children_of sp) 0 (length sp.units) u u [] lt (omega arith)
+
+  pub levels_get : (level : ℕ) → level < sp.depth → get_or (level_lists sp) level [] ≡ units_at sp level
+  levels_get level lt = get_or-map-range_with_len (units_at sp) 0 sp.depth level level [] lt (omega arith)
+
+  pub blocks_get : (u : ℕ) → u < length sp.units → get_or (block_lists sp) u [] ≡ blocks_of sp u
+  blocks_get u lt = get_or-map-range_with_len (blocks_of sp) 0 (length sp.units) u u [] lt (omega arith)
+
+  child_below : (u k : ℕ) → k < length (children_of sp u) → get_or (children_of sp u) k 0 < length sp.units
+  child_below u k lt =
+      each_get (λ c. c < length sp.units) (children_of sp u) k (each_filter _ (is_child sp u) _ (each_range _ 0 (length sp.units) (λ i low high _. omega arith))) lt
+
+  -- each child is a unit
+  pub among_children : (u k : ℕ) (under : List ℕ) → under ≡ children_of sp u → k < length under → get_or under k 0 < length sp.units
+  among_children u k under e lt =
+      let P : List ℕ → Type 0 = λ xs. k < length xs → get_or xs k 0 < length sp.units in
+      subst P (sym e) (child_below u k) lt
+
+  pub preorder_none : (steps u : ℕ) → children_of sp u ≡ [] → preorder_from sp steps u ≡ []
+  preorder_none zero u e = refl
+  preorder_none (suc s) u e = ap (λ xs. elim xs as (λ _. List ℕ) [ [] ↦ [] | c ∷ cs ↦ u ∷ flat_map (preorder_from sp s) (c ∷ cs) ]) e
+
+  pub preorder_some : (steps u : ℕ) (under : List ℕ) → 0 < steps → 0 < length under → children_of sp u ≡ under → preorder_from sp steps u ≡ u ∷ flat_map (preorder_from sp (steps - 1)) under
+  preorder_some zero u under some some_under e = absurd (omega arith)
+  preorder_some (suc s) u [] some some_under e = absurd (omega arith)
+  preorder_some (suc s) u (c ∷ cs) some some_under e =
+      let n : s ≡ suc s - 1 = omega arith in
+      ap (λ xs. elim xs as (λ _. List ℕ) [ [] ↦ [] | d ∷ ds ↦ u ∷ flat_map (preorder_from sp s) (d ∷ ds) ]) e
+      ∙ ap (λ m. u ∷ flat_map (preorder_from sp m) (c ∷ cs)) n
