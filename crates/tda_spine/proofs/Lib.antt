@@ -1,3 +1,4 @@
 pub mod Grouped
 pub mod Units
 pub mod Walks
+pub mod Names

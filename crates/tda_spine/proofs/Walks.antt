@@ -1,9 +1,9 @@
 -- The lists of a spine by their numbers, and the walk over them.
-use Rattle.std.proofs.Common.{◌≡◌, ℕ, zero, suc, ◌-◌, ◌<◌, List, [], ◌∷◌, length, get_or, refl, sym, ap, ◌∙◌, subst, arith}
+use Rattle.std.proofs.Common.{◌≡◌, ℕ, zero, suc, ◌-◌, ◌<◌, List, [], ◌∷◌, length, get_or, refl, sym, ap, ◌∙◌, subst, true, eq-eqb, arith}
 use Rattle.std.specs.List.{flat_map}
 use Rattle.std.proofs.lemmas.List.FromFn.{length-map-range_with_len, get_or-map-range_with_len}
-use Rattle.tda_model.specs.Spine.{Spine, children_of, units_at, blocks_of, is_child, preorder_from}
-use Rattle.tda_model.proofs.Sums.{Each, each_filter, each_range}
+use Rattle.tda_model.specs.Spine.{Spine, IsTree, children_of, units_at, blocks_of, nation_of, is_at, is_child, preorder_from}
+use Rattle.tda_model.proofs.Sums.{Each, each_filter, each_range, filter_each, range_each}
 use Rattle.tda_spine.specs.Sound.{children_lists, level_lists, block_lists}
 
 each_get : (P : ℕ → Type 0) (xs : List ℕ) (k : ℕ) → Each P xs → k < length xs → P (get_or xs k 0)
@@ -45,3 +45,23 @@ module _ (sp : Spine) where
       let n : s ≡ suc s - 1 = omega arith in
       ap (λ xs. elim xs as (λ _. List ℕ) [ [] ↦ [] | d ∷ ds ↦ u ∷ flat_map (preorder_from sp s) (d ∷ ds) ]) e
       ∙ ap (λ m. u ∷ flat_map (preorder_from sp m) (c ∷ cs)) n
+
+  -- the nation is the first unit of the first level
+  pub nation_first : nation_of sp ≡ get_or (units_at sp 0) 0 0
+  nation_first = head (units_at sp 0)
+    where
+      head : (xs : List ℕ) → elim xs as (λ _. ℕ) [ n ∷ rest ↦ n | [] ↦ 0 ] ≡ get_or xs 0 0
+      head [] = refl
+      head (x ∷ xs) = refl
+
+  pub some_nation : (n : ℕ) → IsTree sp n → 0 < length (units_at sp 0)
+  some_nation n t = some (units_at sp 0) (λ e. none (subst (Each (λ _. ⊥)) (sym e) tt))
+    where
+      some : (xs : List ℕ) → (xs ≡ [] → ⊥) → 0 < length xs
+      some [] h = absurd (h refl)
+      some (x ∷ xs) h = omega arith
+
+      none : Each (λ _. ⊥) (units_at sp 0) → ⊥
+      none h =
+          let root : n < length sp.units = t.root in
+          range_each (λ u. is_at sp 0 u ≡ true → ⊥) 0 (length sp.units) (filter_each (λ _. ⊥) (is_at sp 0) _ h) n (omega arith) (omega arith) (eq-eqb _ _ t.root_level)

@@ -17,7 +17,7 @@ pub record IsSound (sp : Spine) : Type 0 where
 
 -- the first unit of a code
 abbrev pub unit_named : Spine → List ℕ → Option ℕ
-unit_named sp code = position (λ x. bytes_eq x.code code) sp.units
+unit_named sp code = position (λ x. bytes_eq code x.code) sp.units
 
 -- the children of each unit
 abbrev pub children_lists : Spine → List (List ℕ)

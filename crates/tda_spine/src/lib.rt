@@ -1,6 +1,7 @@
 //! The spine: reads it and tells its units.
 #![tactic(auto)]
 
+mod codes;
 mod lists;
 mod spine;
 mod tree;

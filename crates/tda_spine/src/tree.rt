@@ -1,6 +1,6 @@
 // The lists of a tree of units.
 ghost use Rattle.std.specs.Prelude.{◌≡◌, ◌<◌, ◌≤◌, ◌^◌, ◌++◌, ℕ, Some, length, IfOk, OnOk};
-ghost use Rattle.tda_model.specs.Spine.{Spine, IsTree, level_of, nation_of, preorder_from};
+ghost use Rattle.tda_model.specs.Spine.{Spine, IsTree, level_of, nation_of, parents_of, preorder_from};
 ghost use Rattle.tda_spine.specs.Sound.{spine_of, children_lists, level_lists};
 
 use crate::lists::Lists;
@@ -56,4 +56,34 @@ fn walk(
         walk(children, *child, steps - 1, order)?;
     }
     Ok(())
+}
+
+/// The lists of a tree of units.
+#[derive(Drop)]
+pub(crate) struct Tree {
+    pub(crate) children: Lists,
+    pub(crate) levels: Lists,
+    pub(crate) parents: Vec<u32>,
+}
+
+impl Tree {
+    /// The lists of a tree that has so many levels.
+    pub(crate) fn new(alloc: Global, depth: usize, units: &[SpineUnit]) -> Result<Tree, NoMemory>
+        requires few { length units.now ≤ 2 ^ 17 }
+        requires tree { IsTree (spine_of depth units.now) (nation_of (spine_of depth units.now)) }
+        ensures children { IfOk result (λ tree. tree.children ≡ children_lists (spine_of depth units.now)) }
+        ensures levels { IfOk result (λ tree. tree.levels ≡ level_lists (spine_of depth units.now)) }
+        ensures parents { IfOk result (λ tree. tree.parents.items ≡ parents_of (spine_of depth units.now)) }
+    {
+        let children = children(alloc, depth, units)?;
+        let levels = levels(alloc, depth, units)?;
+        let nation = levels.get(0)[0];
+        let mut parents = Vec::new(alloc);
+        walk(&children, nation, depth, &mut parents)?;
+        Ok(Tree {
+            children,
+            levels,
+            parents,
+        })
+    }
 }
