@@ -1,8 +1,8 @@
 -- What an accepted spine keeps, and its lists.
-use Rattle.std.specs.Prelude.{ℕ, ◌≡◌, ◌<◌, ◌≤◌, ◌^◌, length, List, map, Option, position}
+use Rattle.std.specs.Prelude.{ℕ, ◌≡◌, ◌<◌, ◌≤◌, ◌^◌, length, List, map, [], ◌∷◌, ◌++◌, slice_index_or, Option, position, if◌then◌else◌}
 use Rattle.std.specs.List.{range_with_len}
 use Rattle.std.specs.Str.{bytes_eq}
-use Rattle.tda_model.specs.Spine.{Spine, SpineUnit, IsUnit, IsTree, nation_of, code_of, unit_numbers, children_of, units_at, blocks_of}
+use Rattle.tda_model.specs.Spine.{Spine, SpineUnit, IsUnit, IsTree, nation_of, code_of, unit_numbers, is_over, children_of, units_at, blocks_of}
 
 -- the spine of these units
 abbrev pub spine_of : ℕ → List SpineUnit → Spine
@@ -30,3 +30,9 @@ level_lists sp = map (units_at sp) (range_with_len 0 sp.depth)
 -- the blocks of each unit
 abbrev pub block_lists : Spine → List (List ℕ)
 block_lists sp = map (blocks_of sp) (unit_numbers sp)
+
+-- a block was appended to the list of each unit over it, and no other list changed
+abbrev pub IsClimbed : List SpineUnit → ℕ → List (List ℕ) → List (List ℕ) → Type 0
+IsClimbed units block old new =
+    (depth : ℕ) → IsTree (spine_of depth units) (nation_of (spine_of depth units))
+    → (length new ≡ length old) × ((u : ℕ) → u < length units → slice_index_or new u [] ≡ slice_index_or old u [] ++ (if is_over (spine_of depth units) u block depth then block ∷ [] else []))

@@ -128,7 +128,7 @@ impl Spine {
         ensures nation { result ≡ nation_of self.now }
         ensures sound { IsSound self.now }
     {
-        self.at_level(0)[0]
+        self.tree.levels.get(0)[0]
     }
 
     /// The units with children, a unit before its children and children in file order.

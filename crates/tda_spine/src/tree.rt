@@ -1,7 +1,7 @@
 // The lists of a tree of units.
 ghost use Rattle.std.specs.Prelude.{◌≡◌, ◌<◌, ◌≤◌, ◌^◌, ◌++◌, ℕ, Some, length, IfOk, OnOk};
 ghost use Rattle.tda_model.specs.Spine.{Spine, IsTree, level_of, nation_of, parents_of, preorder_from};
-ghost use Rattle.tda_spine.specs.Sound.{spine_of, children_lists, level_lists};
+ghost use Rattle.tda_spine.specs.Sound.{spine_of, children_lists, level_lists, block_lists, IsClimbed};
 
 use crate::lists::Lists;
 use crate::unit::SpineUnit;
@@ -56,6 +56,38 @@ fn walk(
         walk(children, *child, steps - 1, order)?;
     }
     Ok(())
+}
+
+// Appends a block to its own list and to the list of each unit over it.
+fn climb(lists: &mut Lists, units: &[SpineUnit], block: u32) -> Result<(), NoMemory>
+    requires tree { (depth : ℕ) × IsTree (spine_of depth units.now) (nation_of (spine_of depth units.now)) }
+    requires block { block < length units.now }
+    requires lists { length lists.old ≡ length units.now }
+    ensures { OnOk result (IsClimbed units.now block lists.old lists.new) }
+{
+    let mut over = Some(block);
+    while let Some(unit) = over {
+        lists.push(unit as usize, block)?;
+        let row = &units[unit as usize];
+        over = row.parent;
+    }
+    Ok(())
+}
+
+// The blocks of each unit.
+fn blocks(alloc: Global, depth: usize, units: &[SpineUnit]) -> Result<Lists, NoMemory>
+    requires few { length units.now ≤ 2 ^ 17 }
+    requires tree { IsTree (spine_of depth units.now) (nation_of (spine_of depth units.now)) }
+    ensures { IfOk result (λ lists. lists ≡ block_lists (spine_of depth units.now)) }
+{
+    let mut lists = Lists::new(alloc, units.len())?;
+    let last = depth - 1;
+    for (number, unit) in units.iter().enumerate() {
+        if unit.level == last {
+            climb(&mut lists, units, number as u32)?;
+        }
+    }
+    Ok(lists)
 }
 
 /// The lists of a tree of units.
