@@ -1,12 +1,14 @@
 -- A block goes to the list of each unit over it.
-use Rattle.std.proofs.Common.{◌≡◌, ◌≢◌, ℕ, zero, suc, ◌+◌, ◌-◌, ◌<◌, ◌≤◌, Bool, true, false, cond, ltb, List, [], ◌∷◌, ◌++◌, length, get_or, set, Option, Some, None, refl, sym, ap, ◌∙◌, subst, inl, inr, arith, get_or-set_same, get_or-set_other, length-set}
+use Rattle.std.proofs.Common.{◌≡◌, ◌≢◌, ℕ, zero, suc, ◌+◌, ◌-◌, ◌<◌, ◌≤◌, Bool, true, false, cond, ltb, List, [], ◌∷◌, ◌++◌, length, get_or, set, Option, Some, None, refl, sym, ap, ◌∙◌, subst, inl, inr, arith, get_or-set_same, get_or-set_other, length-set, ne_eqb}
 use Rattle.std.specs.List.{range_with_len, filter}
 use Rattle.std.proofs.lemmas.Bool.{cases_eq, cases_lt, cases_Bool, eqb-true, lt-ltb, ltb-true, false≢true}
 use Rattle.std.proofs.lemmas.List.{append-nil}
-use Rattle.tda_model.specs.Spine.{Spine, IsUnit, IsTree, HasParent, level_of, parent_of, is_at, is_over}
-use Rattle.tda_model.proofs.Tree.{over_low, over_is, over_up, over_itself}
-use Rattle.tda_model.proofs.Tree as tree
-use Rattle.tda_spine.proofs.Units.{parent_tells}
+use Rattle.tda_model.specs.Spine.{Spine, IsUnit, IsTree, HasParent, level_of, parent_of, is_at, is_over, blocks_of}
+use Rattle.tda_model.proofs.Tree.{up, over_low, over_is, over_up, over_itself}
+use Rattle.tda_spine.proofs.Lookups.{parent_tells, at_yes}
+use Rattle.tda_spine.proofs.Grouped.{Grouped}
+use Rattle.tda_spine.specs.Sound.{block_lists}
+use Rattle.std.proofs.lemmas.List.FromFn.{fill_by_all}
 
 ltb_no : (m n : ℕ) → n ≤ m → ltb m n ≡ false
 ltb_no m n le = elim (cases_Bool (ltb m n)) [ inl is ↦ let lt = ltb-true m n is in absurd (omega arith) | inr is ↦ is ]
@@ -53,13 +55,13 @@ module _ (sp : Spine) (nation : ℕ) (t : IsTree sp nation) (block : ℕ) (here 
         | inl low ↦ absurd (false≢true (sym (over_low sp nation t u block sp.depth here low) ∙ is_u))
         | inr le ↦
             let k = level_of sp block - level_of sp u in
-            let at_p = eqb-true _ _ (sym (over_is sp nation t p block k sp.depth here (omega arith) (omega arith)) ∙ is_p) in
-            let at_u = eqb-true _ _ (sym (over_is sp nation t u block k sp.depth here (omega arith) (omega arith)) ∙ is_u) in
+            let at_p : p ≡ up sp block k = eqb-true _ _ (sym (over_is sp nation t p block k sp.depth here (omega arith) (omega arith)) ∙ is_p) in
+            let at_u : u ≡ up sp block k = eqb-true _ _ (sym (over_is sp nation t u block k sp.depth here (omega arith) (omega arith)) ∙ is_u) in
             at_p ∙ sym at_u
       ]
 
   -- what was met ends at the level above
-  met_next : (u : ℕ) → IsUnit sp u → (o : Option ℕ) → parent_of sp u ≡ o → met sp o ≡ level_of sp u
+  pub met_next : (u : ℕ) → IsUnit sp u → (o : Option ℕ) → parent_of sp u ≡ o → met sp o ≡ level_of sp u
   met_next u here_u (Some q) e = sym (parent_tells sp u nation q t here_u e).above
   met_next u here_u None e = elim (cases_eq (level_of sp u) 0) [
     | inl zero_level ↦ sym zero_level
@@ -109,15 +111,29 @@ module _ (sp : Spine) (nation : ℕ) (t : IsTree sp nation) (block : ℕ) (here 
       → (length lists ≡ length old) × ((u : ℕ) → u < length sp.units → get_or lists u [] ≡ get_or old u [] ++ cond (is_over sp u block sp.depth) (block ∷ []) [])
   climb_end old lists c = (c.whole, λ u low. c.each u low ∙ ap (λ b. get_or old u [] ++ cond b (block ∷ []) []) (high_is u 0 (omega arith)))
 
+both_kept : (b c : Bool) (p : ℕ → Bool) (x : ℕ) (ys zs : List ℕ) → c ≡ p x → ys ≡ filter p zs → cond (cond b c false) (x ∷ ys) ys ≡ filter p (cond b (x ∷ zs) zs)
+both_kept true c p x ys zs e h = ap (λ d. cond d (x ∷ ys) ys) e ∙ ap (λ xs. cond (p x) (x ∷ xs) xs) h
+both_kept false c p x ys zs e h = h
+
 -- two tests at once
 pub filter_both : (p q : ℕ → Bool) (xs : List ℕ) → filter (λ x. cond (q x) (p x) false) xs ≡ filter p (filter q xs)
 filter_both p q [] = refl
-filter_both p q (x ∷ xs) = by (q x)
-  where
-    by : (b : Bool) → cond (cond b (p x) false) (x ∷ filter (λ y. cond (q y) (p y) false) xs) (filter (λ y. cond (q y) (p y) false) xs) ≡ filter p (cond b (x ∷ filter q xs) (filter q xs))
-    by true = ap (λ ys. cond (p x) (x ∷ ys) ys) (filter_both p q xs)
-    by false = filter_both p q xs
+filter_both p q (x ∷ xs) = both_kept (q x) (p x) p x (filter (λ y. cond (q y) (p y) false) xs) (filter q xs) refl (filter_both p q xs)
 
 -- whether a unit is one of the blocks of another
 abbrev pub is_block_of : Spine → ℕ → ℕ → Bool
 is_block_of sp u v = cond (is_at sp (sp.depth - 1) v) (is_over sp u v sp.depth) false
+
+module _ (sp : Spine) (k : ℕ) where
+  pub block_is : (p : ℕ) → level_of sp k ≡ sp.depth - 1 → is_block_of sp p k ≡ is_over sp p k sp.depth
+  block_is p e = ap (λ b. cond b (is_over sp p k sp.depth) false) (at_yes sp k (sp.depth - 1) e)
+
+  pub block_not : (p : ℕ) → (level_of sp k ≡ sp.depth - 1 → ⊥) → is_block_of sp p k ≡ false
+  block_not p ne = ap (λ b. cond b (is_over sp p k sp.depth) false) (ne_eqb (level_of sp k) (sp.depth - 1) ne)
+
+-- the lists that the tests give are the units' blocks
+pub blocks_are : (sp : Spine) (n : ℕ) (lists : List (List ℕ)) → n ≡ length sp.units → Grouped (is_block_of sp) (length sp.units) n lists → lists ≡ block_lists sp
+blocks_are sp n lists e g =
+    fill_by_all (blocks_of sp) lists (length sp.units) [] g.whole
+    (λ u low. g.each u low ∙ ap (λ m. filter (is_block_of sp u) (range_with_len 0 m)) e
+    ∙ filter_both (λ v. is_over sp u v sp.depth) (is_at sp (sp.depth - 1)) (range_with_len 0 (length sp.units)))

@@ -1,5 +1,5 @@
 pub mod Grouped
-pub mod Units
+pub mod Lookups
 pub mod Walks
-pub mod Names
+pub mod CodeLists
 pub mod Climbs

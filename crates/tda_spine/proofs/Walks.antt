@@ -18,6 +18,9 @@ module _ (sp : Spine) where
   pub levels_length : length (level_lists sp) ≡ sp.depth
   levels_length = length-map-range_with_len (units_at sp) 0 sp.depth
 
+  pub blocks_length : length (block_lists sp) ≡ length sp.units
+  blocks_length = length-map-range_with_len (blocks_of sp) 0 (length sp.units)
+
   pub children_get : (u : ℕ) → u < length sp.units → get_or (children_lists sp) u [] ≡ children_of sp u
   children_get u lt = get_or-map-range_with_len (children_of sp) 0 (length sp.units) u u [] lt (omega arith)
 

@@ -1,5 +1,5 @@
 // An accepted spine and its readers.
-ghost use Rattle.std.specs.Prelude.{◌≡◌, ◌<◌, ◌≤◌, ◌^◌, ℕ, List, length, map, IfOk, IfSome, IfNone};
+ghost use Rattle.std.specs.Prelude.{◌≡◌, ◌<◌, ◌≤◌, ◌^◌, ℕ, List, length, map, IfOk, IfSome, IfNone, IsNone, ◌↔◌};
 ghost use Rattle.tda_model.specs.Spine.{IsUnit, level_of, parent_of, code_of, children_of, blocks_of, units_at, nation_of, parents_of};
 ghost use Rattle.tda_spine.specs.Sound.{spine_of, IsSound, unit_named};
 
@@ -101,7 +101,8 @@ impl Spine {
     /// The unit above a unit, and None for the nation alone.
     pub fn parent(&self, unit: u32) -> Option<u32>
         requires { IsUnit self.now unit }
-        ensures { result ≡ parent_of self.now unit }
+        ensures value { result ≡ parent_of self.now unit }
+        ensures top { IsNone result ↔ (unit ≡ nation_of self.now) }
     {
         let unit = &self.units[unit as usize];
         unit.parent
@@ -113,6 +114,14 @@ impl Spine {
         ensures { result.now ≡ children_of self.now unit }
     {
         self.tree.children.get(unit as usize)
+    }
+
+    /// The units of the last level that are a unit or lie below it, in file order. A block's own list is itself.
+    pub fn blocks(&self, unit: u32) -> &[u32]
+        requires { IsUnit self.now unit }
+        ensures { result.now ≡ blocks_of self.now unit }
+    {
+        self.tree.blocks.get(unit as usize)
     }
 
     /// The units of a level, in file order.

@@ -95,6 +95,7 @@ fn blocks(alloc: Global, depth: usize, units: &[SpineUnit]) -> Result<Lists, NoM
 pub(crate) struct Tree {
     pub(crate) children: Lists,
     pub(crate) levels: Lists,
+    pub(crate) blocks: Lists,
     pub(crate) parents: Vec<u32>,
 }
 
@@ -105,16 +106,19 @@ impl Tree {
         requires tree { IsTree (spine_of depth units.now) (nation_of (spine_of depth units.now)) }
         ensures children { IfOk result (λ tree. tree.children ≡ children_lists (spine_of depth units.now)) }
         ensures levels { IfOk result (λ tree. tree.levels ≡ level_lists (spine_of depth units.now)) }
+        ensures blocks { IfOk result (λ tree. tree.blocks ≡ block_lists (spine_of depth units.now)) }
         ensures parents { IfOk result (λ tree. tree.parents.items ≡ parents_of (spine_of depth units.now)) }
     {
         let children = children(alloc, depth, units)?;
         let levels = levels(alloc, depth, units)?;
+        let blocks = blocks(alloc, depth, units)?;
         let nation = levels.get(0)[0];
         let mut parents = Vec::new(alloc);
         walk(&children, nation, depth, &mut parents)?;
         Ok(Tree {
             children,
             levels,
+            blocks,
             parents,
         })
     }

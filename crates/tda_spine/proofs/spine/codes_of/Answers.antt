@@ -1,8 +1,8 @@
 use Rattle.std.proofs.Common.{◌≡◌, ◌∙◌, ap, sym, subst, ℕ, List, All}
 use Rattle.tda_model.specs.Spine.{code_of}
 use Rattle.tda_spine.specs.Sound.{spine_of}
-use Rattle.tda_spine.proofs.Names.{codes_apart}
-use Rattle.tda_spine.proofs.Units.{code_at}
+use Rattle.tda_spine.proofs.CodeLists.{codes_apart}
+use Rattle.tda_spine.proofs.Lookups.{code_at}
 use Rattle.tda_spine.proofs.spine.codes_of.Goals as goal
 
 pub push-requires : goal.push-requires

@@ -3,7 +3,7 @@ use Rattle.std.specs.List.{filter, range_with_len}
 use Rattle.tda_model.specs.Spine.{is_child, parent_of, nation_of}
 use Rattle.tda_spine.specs.Sound.{spine_of}
 use Rattle.tda_spine.proofs.Grouped.{Grouped, grouped_none, grouped_put, grouped_skip, grouped_all}
-use Rattle.tda_spine.proofs.Units.{parent_at, parent_tells, child_yes, child_no, child_never}
+use Rattle.tda_spine.proofs.Lookups.{parent_at, parent_tells, child_yes, child_no, child_never}
 use Rattle.tda_spine.proofs.tree.children.Goals.{in-Some+in_ok-push, in_default}
 use Rattle.tda_spine.proofs.tree.children.Goals as goal
 

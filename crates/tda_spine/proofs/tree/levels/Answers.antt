@@ -3,7 +3,7 @@ use Rattle.std.specs.List.{filter, range_with_len}
 use Rattle.tda_model.specs.Spine.{is_at, level_of}
 use Rattle.tda_spine.specs.Sound.{spine_of}
 use Rattle.tda_spine.proofs.Grouped.{grouped_none, grouped_put, grouped_all}
-use Rattle.tda_spine.proofs.Units.{level_at, at_yes, at_no}
+use Rattle.tda_spine.proofs.Lookups.{level_at, at_yes, at_no}
 use Rattle.tda_spine.proofs.tree.levels.Goals as goal
 
 pub loop-number-init : goal.loop-number-init

@@ -1,6 +1,6 @@
 use Rattle.std.proofs.Common.{◌∙◌, sym}
 use Rattle.std.specs.Str.{bytes_eq}
-use Rattle.tda_spine.proofs.Names.{position-map}
+use Rattle.tda_spine.proofs.CodeLists.{position-map}
 use Rattle.tda_spine.proofs.codes.Codes.find.Goals as goal
 
 pub returns : goal.returns

@@ -1,4 +1,4 @@
-use Rattle.tda_spine.proofs.Names.{codes_push}
+use Rattle.tda_spine.proofs.CodeLists.{codes_push}
 use Rattle.tda_spine.proofs.codes.Codes.push.Goals as goal
 
 pub returns : goal.returns

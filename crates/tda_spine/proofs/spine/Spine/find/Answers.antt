@@ -1,5 +1,5 @@
 use Rattle.std.proofs.Common.{◌≡◌, ◌∙◌, sym}
-use Rattle.tda_spine.proofs.Names.{named_by, named_is, unnamed}
+use Rattle.tda_spine.proofs.CodeLists.{named_by, named_is, unnamed}
 use Rattle.tda_spine.proofs.spine.Spine.find.Goals as goal
 
 pub returns-in_default-clause-value : goal.returns-in_default-clause-value
