@@ -1,11 +1,11 @@
 -- Which files are spines of a schema, and which spine each is: each thing that can be wrong is a test of its own, and they stand in the order in which they are judged.
-use Rattle.std.specs.Prelude.{codes, ℕ, ◌+◌, ◌*◌, Bool, ◌&&◌, ◌||◌, ◌==◌, not, List, [], ◌∷◌, length, nat_lt, Option, Some, None, Result, if◌then◌else◌}
+use Rattle.std.specs.Prelude.{codes, ◌≡◌, ◌≤◌, ◌<◌, ℕ, ◌+◌, ◌*◌, Bool, ◌&&◌, ◌||◌, ◌==◌, not, List, [], ◌∷◌, length, nat_lt, Option, Some, None, Result, if◌then◌else◌}
 use Rattle.std.specs.List.{list_any}
 use Rattle.tda_io.specs.Csv as csv
 use Rattle.tda_io.specs.Csv.{Row, Format}
 use Rattle.tda_model.specs.Schema.{Schema}
 use Rattle.tda_model.specs.Cells.{cell_count}
-use Rattle.tda_model.specs.Spine.{Spine, level_of, units_at, children_of, unit_numbers}
+use Rattle.tda_model.specs.Spine.{Spine, IsUnit, level_of, units_at, children_of, unit_numbers}
 use Rattle.tda_model.specs.Sizes.{FitSize, fit_size, place_count, units_limit, counts_limit, places_limit, nodes_limit, arcs_limit}
 use Rattle.tda_spine.specs.Rows.{is_bad_code, is_repeated, has_unknown_parent, has_wrong_level, spine_in}
 use Rattle.tda_spine.specs.declared.fault.SpineFault.{SpineFault}
@@ -77,3 +77,14 @@ format s = record {
 -- the spine that a text is, or its fault
 abbrev pub read : Schema → List ℕ → Result Spine SpineFault
 read s text = csv.read (format s) text
+
+-- not too many units, counts, places, nodes or arcs
+pub record IsWithinLimits (s : Schema) (sp : Spine) : Type 0 where
+  pub depth : sp.depth ≡ length s.levels
+  pub units : length sp.units ≤ units_limit
+  pub counts : length sp.units * cell_count s ≤ counts_limit
+  pub places : place_count s sp ≤ places_limit
+  pub root_nodes : (fit_size s sp None).nodes ≤ nodes_limit
+  pub root_arcs : (fit_size s sp None).arcs ≤ arcs_limit
+  pub nodes : (u : ℕ) → IsUnit sp u → level_of sp u + 1 < sp.depth → (fit_size s sp (Some u)).nodes ≤ nodes_limit
+  pub arcs : (u : ℕ) → IsUnit sp u → level_of sp u + 1 < sp.depth → (fit_size s sp (Some u)).arcs ≤ arcs_limit

@@ -3,3 +3,5 @@ pub mod Index
 pub mod Indexed
 pub mod Judged
 pub mod Rows
+pub mod Sound
+pub mod Kept

@@ -4,10 +4,13 @@ ghost use Rattle.tda_model.specs.Spine.{units_at, children_of, level_of, IsUnit}
 ghost use Rattle.tda_model.specs.Sizes.{place_count, places_limit};
 ghost use Rattle.tda_spine.specs.Draft.{AreCounted, ParentIsBelow, names_parent};
 ghost use Rattle.tda_spine.specs.Judged as spec;
+ghost use Rattle.tda_spine.specs.Sound.{IsSound};
 
+use crate::Spine;
 use crate::unit::SpineUnit;
 use std::alloc::{AllocError, Global};
 use std::marker::Model;
+use tda_io::NoMemory;
 use tda_schema::Schema;
 
 // The most units, units times cells, and places of a release.
@@ -183,5 +186,13 @@ impl Draft {
         units > UNITS
             || units * u64::from(schema.cells()) > COUNTS
             || self.has_too_many_places(schema)
+    }
+
+    /// The spine, with its lists.
+    pub(crate) fn into_spine(self, alloc: Global) -> Result<Spine, NoMemory>
+        requires { IsSound self }
+        ensures { IfOk result (λ spine. spine ≡ self) }
+    {
+        Spine::new(alloc, self.depth, self.units)
     }
 }
