@@ -16,7 +16,7 @@ loop-number-preserved c =
     let count = length c.args.units.now in
     let k = c.loop-number.number in
     let level : level_of sp k ≡ c.unit.inside.level =
-        level_at sp k c.index-units-number.result c.index-units-number.is c.loop-number-test.true ∙ sym (ap (λ x. x.level) c.unit.view_is) in
+    level_at sp k c.index-units-number.result c.index-units-number.is c.loop-number-test.true ∙ sym (ap (λ x. x.level) c.unit.view_is) in
     elim c.if-unit-last.branch [
       | then-unit-last+in_ok-climb w ↦
           let climbed = w.in_ok-climb.ensures c.args.depth c.requires.tree in
