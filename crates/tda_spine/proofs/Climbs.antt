@@ -1,9 +1,9 @@
 -- A block goes to the list of each unit over it.
-use Rattle.std.proofs.Common.{◌≡◌, ◌≢◌, ℕ, zero, suc, ◌+◌, ◌-◌, ◌<◌, ◌≤◌, Bool, true, false, cond, ltb, List, [], ◌∷◌, ◌++◌, length, get_or, set, Option, Some, None, refl, sym, ap, ◌∙◌, subst, inl, inr, arith, get_or-set_same, get_or-set_other, length-set, ne_eqb}
+use Rattle.std.proofs.Common.{◌≡◌, ◌≢◌, ℕ, ◌+◌, ◌-◌, ◌<◌, ◌≤◌, Bool, true, false, cond, ltb, List, [], ◌∷◌, ◌++◌, length, get_or, set, Option, Some, None, refl, sym, ap, ◌∙◌, subst, inl, inr, arith, get_or-set_same, get_or-set_other, length-set, ne_eqb}
 use Rattle.std.specs.List.{range_with_len, filter}
 use Rattle.std.proofs.lemmas.Bool.{cases_eq, cases_lt, cases_Bool, eqb-true, lt-ltb, ltb-true, false≢true}
 use Rattle.std.proofs.lemmas.List.{append-nil}
-use Rattle.tda_model.specs.Spine.{Spine, IsUnit, IsTree, HasParent, level_of, parent_of, is_at, is_over, blocks_of}
+use Rattle.tda_model.specs.Spine.{Spine, IsUnit, IsTree, level_of, parent_of, is_at, is_over, blocks_of}
 use Rattle.tda_model.proofs.Tree.{up, over_low, over_is, over_up, over_itself}
 use Rattle.tda_spine.proofs.Lookups.{parent_tells, at_yes}
 use Rattle.tda_spine.proofs.Grouped.{Grouped}
@@ -38,7 +38,7 @@ module _ (sp : Spine) (nation : ℕ) (t : IsTree sp nation) (block : ℕ) (here 
   climb_start lists = record {
     whole = refl;
     next = λ u e. let same : block ≡ u = cc in subst (λ v. IsUnit sp v × (is_over sp v block sp.depth ≡ true)) same (here, over_itself sp nation t block here);
-    each = λ p low. sym (append-nil (get_or lists p [])) ∙ ap (λ b. get_or lists p [] ++ cond b (block ∷ []) []) (sym (not_met p))
+    each = λ p low. sym (append-nil (get_or lists p [])) ∙ ap (λ b. get_or lists p [] ++ cond b (block ∷ []) []) (sym (not_met p));
   }
     where
       not_met : (p : ℕ) → is_met sp block (level_of sp block + 1) p ≡ false
@@ -83,7 +83,7 @@ module _ (sp : Spine) (nation : ℕ) (t : IsTree sp nation) (block : ℕ) (here 
               ap (λ xs. get_or xs p []) put ∙ get_or-set_other lists u p _ [] ne ∙ c.each p low
               ∙ ap (λ b. get_or old p [] ++ cond b (block ∷ []) []) (elsewhere p ne)
               ∙ ap (λ m. get_or old p [] ++ cond (is_met sp block m p) (block ∷ []) []) (sym level)
-        ]
+        ];
   }
     where
       at_u : met sp o ≡ level_of sp u → get_or new u [] ≡ get_or old u [] ++ cond (is_met sp block (met sp o) u) (block ∷ []) []
@@ -100,11 +100,11 @@ module _ (sp : Spine) (nation : ℕ) (t : IsTree sp nation) (block : ℕ) (here 
       elsewhere p ne = elim (cases_lt (level_of sp p) (level_of sp u)) [
         | inl lt ↦ low_not p _ (omega arith) ∙ sym (low_not p _ lt)
         | inr le ↦ elim (cases_eq (level_of sp p) (level_of sp u)) [
-            | inl level ↦
-                low_not p _ (omega arith)
-                ∙ sym (high_is p _ le ∙ elim (cases_Bool (is_over sp p block sp.depth)) [ inl is ↦ absurd (ne (one_over p u level is (c.next u refl).1)) | inr is ↦ is ])
-            | inr more ↦ high_is p _ (omega arith) ∙ sym (high_is p _ le)
-          ]
+          | inl level ↦
+              low_not p _ (omega arith)
+              ∙ sym (high_is p _ le ∙ elim (cases_Bool (is_over sp p block sp.depth)) [ inl is ↦ absurd (ne (one_over p u level is (c.next u refl).1)) | inr is ↦ is ])
+          | inr more ↦ high_is p _ (omega arith) ∙ sym (high_is p _ le)
+        ]
       ]
 
   pub climb_end : (old lists : List (List ℕ)) → Climbs sp block old lists None

@@ -1,6 +1,6 @@
 -- Codes by number: where a list of codes has one.
-use Rattle.std.proofs.Common.{◌≡◌, ℕ, zero, suc, ◌+◌, ◌<◌, ◌≤◌, ◌≢◌, All, take, ◌||◌, inl, inr, Bool, true, false, cond, not, nat_lt, List, [], ◌∷◌, ◌++◌, map, length, get_or, Option, Some, None, position, refl, sym, ap, ◌∙◌, subst, arith, nat_eq}
-use Rattle.std.specs.List.{position_or_len, prefix_len, list_any}
+use Rattle.std.proofs.Common.{◌≡◌, ℕ, zero, suc, ◌+◌, ◌<◌, ◌≤◌, All, take, ◌||◌, inl, inr, Bool, true, false, cond, not, nat_lt, List, [], ◌∷◌, ◌++◌, map, length, get_or, Option, Some, None, position, refl, sym, ap, ◌∙◌, arith}
+use Rattle.std.specs.List.{position_or_len, list_any}
 use Rattle.std.specs.Str.{bytes_eq}
 use Rattle.std.specs.Global.{Vec}
 use Rattle.std.specs.Cmp.Lexicographic.{bytes_decides}
@@ -45,7 +45,7 @@ module _ {X : Type 0} (p : X → Bool) where
   position_seen xs k d lt is none =
       let le = first_low xs k d lt is in
       let some : position p xs ≡ Some (position_or_len p xs) =
-          ap (λ b. cond b (Some (position_or_len p xs)) None) (lt-ltb (position_or_len p xs) (length xs) (omega arith)) in
+      ap (λ b. cond b (Some (position_or_len p xs)) None) (lt-ltb (position_or_len p xs) (length xs) (omega arith)) in
       cc
 
 -- codes in keys: a new one goes last
@@ -53,8 +53,8 @@ pub codes_push : (old new : List (Vec ℕ)) (v : Vec ℕ) (code : List ℕ) → 
     → new ≡ cond (list_any (λ w. bytes_eq v.items w.items) old) old (old ++ v ∷ []) → map (λ w. w.items) new ≡ map (λ w. w.items) old ++ code ∷ []
 codes_push old new v code same fresh e =
     let absent : list_any (λ w. bytes_eq v.items w.items) old ≡ false =
-        any_map (λ w. w.items) (bytes_eq v.items) old
-        ∙ list_any_none (bytes_eq v.items) (map (λ w. w.items) old) (λ k d lt. other (get_or (map (λ w. w.items) old) k d) (fresh k d lt)) in
+    any_map (λ w. w.items) (bytes_eq v.items) old
+    ∙ list_any_none (bytes_eq v.items) (map (λ w. w.items) old) (λ k d lt. other (get_or (map (λ w. w.items) old) k d) (fresh k d lt)) in
     ap (map (λ w. w.items)) (e ∙ ap (λ b. cond b old (old ++ v ∷ [])) absent) ∙ map-append (λ w. w.items) old (v ∷ [])
     ∙ ap (λ xs. map (λ w. w.items) old ++ xs ∷ []) same
   where
@@ -75,9 +75,9 @@ codes_apart units n code here apart e k d lt same =
     let far : k < length units = omega arith in
     let none : SpineUnit = record { code = []; level = 0; parent = None } in
     let known : get_or (map (λ x. x.code) (take n units)) k d ≡ (get_or units k none).code =
-        get_or-map (λ x. x.code) (take n units) k none d (omega (arith, length-take-le n units (omega arith))) ∙ ap (λ x. x.code) (get_or-take n units k none low) in
+    get_or-map (λ x. x.code) (take n units) k none d (omega (arith, length-take-le n units (omega arith))) ∙ ap (λ x. x.code) (get_or-take n units k none low) in
     let other : code_of (spine_of 0 units) k ≡ (get_or units k none).code =
-        ap (λ o. elim o as (λ _. List ℕ) [ Some x ↦ x.code | None ↦ [] ]) (slice_get-get_or units k none far) in
+    ap (λ o. elim o as (λ _. List ℕ) [ Some x ↦ x.code | None ↦ [] ]) (slice_get-get_or units k none far) in
     apart k n low here (other ∙ sym known ∙ sym same ∙ sym e)
 
 -- look-ups among the codes of a spine

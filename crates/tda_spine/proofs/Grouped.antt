@@ -44,14 +44,14 @@ module _ (test : ℕ → ℕ → Bool) (count : ℕ) where
   pub grouped_none : (lists : List (List ℕ)) → lists ≡ map (λ _. []) (range_with_len 0 count) → Grouped test count 0 lists
   grouped_none lists e = record {
     whole = ap length e ∙ length-map-range_with_len (λ _. []) 0 count;
-    each = λ p lt. ap (λ xs. get_or xs p []) e ∙ get_or-map-range_with_len (λ _. []) 0 count p p [] lt (omega arith)
+    each = λ p lt. ap (λ xs. get_or xs p []) e ∙ get_or-map-range_with_len (λ _. []) 0 count p p [] lt (omega arith);
   }
 
   pub grouped_more : (k : ℕ) (old new : List (List ℕ)) → Grouped test count k old → length new ≡ length old
       → ((p : ℕ) → p < count → get_or new p [] ≡ get_or old p [] ++ cond (test p k) (k ∷ []) []) → Grouped test count (k + 1) new
   grouped_more k old new g len h = record {
     whole = len ∙ g.whole;
-    each = λ p lt. h p lt ∙ ap (λ xs. xs ++ cond (test p k) (k ∷ []) []) (g.each p lt) ∙ sym (filter_more (test p) k)
+    each = λ p lt. h p lt ∙ ap (λ xs. xs ++ cond (test p k) (k ∷ []) []) (g.each p lt) ∙ sym (filter_more (test p) k);
   }
 
   -- the unit belongs to one list

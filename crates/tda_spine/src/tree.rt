@@ -37,12 +37,7 @@ fn levels(alloc: Global, depth: usize, units: &[SpineUnit]) -> Result<Lists, NoM
 }
 
 // Appends the units with children at and below a unit, over so many levels, each before its children.
-fn walk(
-    children: &Lists,
-    unit: u32,
-    steps: usize,
-    order: &mut Vec<u32>,
-) -> Result<(), NoMemory>
+fn walk(children: &Lists, unit: u32, steps: usize, order: &mut Vec<u32>) -> Result<(), NoMemory>
     requires spine { (sp : Spine) × (children.now ≡ children_lists sp) }
     requires unit { unit < length children.now }
     ensures { OnOk result ((sp : Spine) → children.now ≡ children_lists sp → order.new.items ≡ order.old.items ++ preorder_from sp steps unit) }

@@ -1,5 +1,5 @@
-use Rattle.std.proofs.Common.{◌≡◌, ◌<◌, ◌∙◌, ◌+◌, ◌-◌, ℕ, List, [], ◌∷◌, ◌++◌, cond, get_or, ap, sym, subst, length, arith}
-use Rattle.tda_model.specs.Spine.{level_of, nation_of, is_over}
+use Rattle.std.proofs.Common.{◌≡◌, ◌∙◌, ◌+◌, ℕ, List, [], ◌∷◌, ◌++◌, cond, get_or, ap, sym, subst, length, arith}
+use Rattle.tda_model.specs.Spine.{level_of}
 use Rattle.tda_spine.specs.Sound.{spine_of}
 use Rattle.tda_spine.proofs.Climbs.{is_block_of, block_is, block_not, blocks_are}
 use Rattle.tda_spine.proofs.Grouped.{Grouped, grouped_none, grouped_more, grouped_skip}
@@ -16,7 +16,7 @@ loop-number-preserved c =
     let count = length c.args.units.now in
     let k = c.loop-number.number in
     let level : level_of sp k ≡ c.unit.inside.level =
-        level_at sp k c.index-units-number.result c.index-units-number.is c.loop-number-test.true ∙ sym (ap (λ x. x.level) c.unit.view_is) in
+    level_at sp k c.index-units-number.result c.index-units-number.is c.loop-number-test.true ∙ sym (ap (λ x. x.level) c.unit.view_is) in
     elim c.if-unit-last.branch [
       | then-unit-last+in_ok-climb w ↦
           let climbed = w.in_ok-climb.ensures c.args.depth c.requires.tree in

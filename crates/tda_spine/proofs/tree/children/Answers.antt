@@ -1,4 +1,4 @@
-use Rattle.std.proofs.Common.{◌≡◌, ◌∙◌, ◌<◌, ap, length, subst, sym, arith, Some, ℕ, List, ◌+◌, map}
+use Rattle.std.proofs.Common.{◌≡◌, ◌∙◌, ap, length, subst, sym, arith, Some, ℕ, List, ◌+◌, map}
 use Rattle.std.specs.List.{filter, range_with_len}
 use Rattle.tda_model.specs.Spine.{is_child, parent_of, nation_of}
 use Rattle.tda_spine.specs.Sound.{spine_of}
@@ -15,7 +15,7 @@ push-requires c =
     let sp = spine_of c.args.depth c.args.units.now in
     let k = c.loop-number.number in
     let named : parent_of sp k ≡ Some c.in-Some.parent =
-        parent_at sp k c.index-units-number.result c.index-units-number.is c.loop-number-test.true ∙ sym (ap (λ x. x.parent) c.unit.view_is) ∙ c.in-Some.is in
+    parent_at sp k c.index-units-number.result c.index-units-number.is c.loop-number-test.true ∙ sym (ap (λ x. x.parent) c.unit.view_is) ∙ c.in-Some.is in
     let here = (parent_tells sp k (nation_of sp) c.in-Some.parent c.requires.tree c.loop-number-test.true named).here in
     omega (arith, c.loop-number.invariant.whole, here)
 
@@ -24,7 +24,7 @@ loop-number-preserved c =
     let sp = spine_of c.args.depth c.args.units.now in
     let k = c.loop-number.number in
     let named : parent_of sp k ≡ c.unit.inside.parent =
-        parent_at sp k c.index-units-number.result c.index-units-number.is c.loop-number-test.true ∙ sym (ap (λ x. x.parent) c.unit.view_is) in
+    parent_at sp k c.index-units-number.result c.index-units-number.is c.loop-number-test.true ∙ sym (ap (λ x. x.parent) c.unit.view_is) in
     elim c.match-unit.branch [
       | in-Some+in_ok-push w ↦
           let known : parent_of sp k ≡ Some w.in-Some.parent = named ∙ w.in-Some.is in

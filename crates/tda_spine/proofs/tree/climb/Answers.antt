@@ -1,4 +1,4 @@
-use Rattle.std.proofs.Common.{◌≡◌, ◌<◌, ◌+◌, ◌∙◌, ℕ, Option, Some, ap, sym, subst, length, arith}
+use Rattle.std.proofs.Common.{◌≡◌, ◌<◌, ◌+◌, ◌∙◌, ℕ, Option, ap, sym, subst, length, arith}
 use Rattle.tda_model.specs.Spine.{parent_of, level_of, nation_of}
 use Rattle.tda_spine.specs.Sound.{spine_of}
 use Rattle.tda_spine.proofs.Climbs.{Climbs, met, met_next, climb_start, climb_step}
@@ -23,7 +23,7 @@ loop-over-smaller c =
     let u = c.in-Some.unit in
     let here : u < length c.args.units.now = ((c.loop-over.invariant c.requires.tree.0 c.requires.tree.1).next u c.in-Some.is).0 in
     let named : parent_of sp u ≡ c.row.inside.parent =
-        parent_at sp u c.index-units-unit.result c.index-units-unit.is here ∙ sym (ap (λ x. x.parent) c.row.view_is) in
+    parent_at sp u c.index-units-unit.result c.index-units-unit.is here ∙ sym (ap (λ x. x.parent) c.row.view_is) in
     let below : met sp c.row.inside.parent ≡ level_of sp u = met_next sp (nation_of sp) c.requires.tree.1 c.args.block c.requires.block u here c.row.inside.parent named in
     let above : met sp c.loop-over.over ≡ level_of sp u + 1 = ap (met sp) c.in-Some.is in
     omega arith
@@ -36,5 +36,5 @@ loop-over-preserved c = λ depth t.
     let climbs = subst P c.in-Some.is (c.loop-over.invariant depth t) in
     let here : u < length c.args.units.now = ((c.loop-over.invariant depth t).next u c.in-Some.is).0 in
     let named : parent_of sp u ≡ c.row.inside.parent =
-        parent_at sp u c.index-units-unit.result c.index-units-unit.is here ∙ sym (ap (λ x. x.parent) c.row.view_is) in
+    parent_at sp u c.index-units-unit.result c.index-units-unit.is here ∙ sym (ap (λ x. x.parent) c.row.view_is) in
     climb_step sp (nation_of sp) t c.args.block c.requires.block c.args.lists.now c.loop-over.lists c.push.new.self u c.row.inside.parent c.requires.lists climbs named c.in_ok-push.ensures

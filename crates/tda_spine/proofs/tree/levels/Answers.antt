@@ -1,4 +1,4 @@
-use Rattle.std.proofs.Common.{◌≡◌, ◌∙◌, ◌<◌, ap, length, subst, sym, arith, map}
+use Rattle.std.proofs.Common.{◌≡◌, ◌∙◌, ◌<◌, ap, length, sym, arith, map}
 use Rattle.std.specs.List.{filter, range_with_len}
 use Rattle.tda_model.specs.Spine.{is_at, level_of}
 use Rattle.tda_spine.specs.Sound.{spine_of}
@@ -13,7 +13,7 @@ pub push-requires : goal.push-requires
 push-requires c =
     let sp = spine_of c.args.depth c.args.units.now in
     let level : level_of sp c.loop-number.number ≡ c.unit.inside.level =
-        level_at sp c.loop-number.number c.index-units-number.result c.index-units-number.is c.loop-number-test.true ∙ sym (ap (λ x. x.level) c.unit.view_is) in
+    level_at sp c.loop-number.number c.index-units-number.result c.index-units-number.is c.loop-number-test.true ∙ sym (ap (λ x. x.level) c.unit.view_is) in
     let within : level_of sp c.loop-number.number < c.args.depth = c.requires.within c.loop-number.number c.loop-number-test.true in
     omega (arith, c.loop-number.invariant.whole)
 
@@ -22,7 +22,7 @@ loop-number-preserved c =
     let sp = spine_of c.args.depth c.args.units.now in
     let k = c.loop-number.number in
     let level : level_of sp k ≡ c.unit.inside.level =
-        level_at sp k c.index-units-number.result c.index-units-number.is c.loop-number-test.true ∙ sym (ap (λ x. x.level) c.unit.view_is) in
+    level_at sp k c.index-units-number.result c.index-units-number.is c.loop-number-test.true ∙ sym (ap (λ x. x.level) c.unit.view_is) in
     let within : level_of sp k < c.args.depth = c.requires.within k c.loop-number-test.true in
     grouped_put (is_at sp) c.args.depth k c.unit.inside.level c.loop-number.lists _ c.loop-number.invariant (omega arith)
     (at_yes sp k _ level) (λ p ne. at_no sp k _ p level ne) c.in_ok-push.ensures
