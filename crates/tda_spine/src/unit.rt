@@ -1,7 +1,7 @@
 // A unit of a spine.
 use std::marker::Model;
 
-/// A unit: its code, its level and, below the nation, its parent.
+/// A unit: its code, its level, and the number of its parent, which the nation alone lacks.
 #[derive(Debug, Drop)]
 pub(crate) struct SpineUnit {
     pub(crate) code: String,
