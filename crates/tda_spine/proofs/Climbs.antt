@@ -1,9 +1,9 @@
 -- A block goes to the list of each unit over it.
-use Rattle.std.proofs.Common.{◌≡◌, ◌≢◌, ℕ, zero, suc, ◌+◌, ◌-◌, ◌<◌, ◌≤◌, Bool, true, false, cond, ltb, List, [], ◌∷◌, ◌++◌, length, get_or, set, Option, Some, None, refl, sym, ap, ◌∙◌, subst, inl, inr, arith, get_or-set_same, get_or-set_other, length-set, ne_eqb}
+use Rattle.std.proofs.Common.{◌≡◌, ◌≢◌, ℕ, ◌+◌, ◌-◌, ◌<◌, ◌≤◌, Bool, true, false, cond, ltb, List, [], ◌∷◌, ◌++◌, length, get_or, set, Option, Some, None, refl, sym, ap, ◌∙◌, subst, inl, inr, arith, get_or-set_same, get_or-set_other, length-set, ne_eqb}
 use Rattle.std.specs.List.{range_with_len, filter}
 use Rattle.std.proofs.lemmas.Bool.{cases_eq, cases_lt, cases_Bool, eqb-true, lt-ltb, ltb-true, false≢true}
 use Rattle.std.proofs.lemmas.List.{append-nil}
-use Rattle.tda_model.specs.Spine.{Spine, IsUnit, IsTree, HasParent, level_of, parent_of, is_at, is_over, blocks_of}
+use Rattle.tda_model.specs.Spine.{Spine, IsUnit, IsTree, level_of, parent_of, is_at, is_over, blocks_of}
 use Rattle.tda_model.proofs.Tree.{up, over_low, over_is, over_up, over_itself}
 use Rattle.tda_spine.proofs.Lookups.{parent_tells, at_yes}
 use Rattle.tda_spine.proofs.Grouped.{Grouped}

@@ -1,6 +1,5 @@
 -- What is read of a unit by its number.
-use Rattle.std.proofs.Common.{◌≡◌, ◌≢◌, ℕ, ◌<◌, Bool, true, false, ◌==◌, List, [], length, get_or, slice_get, Option, Some, None, refl, sym, ap, ◌∙◌, ne_eqb, eq-eqb, inl, inr, arith}
-use Rattle.std.proofs.lemmas.Bool.{cases_eq}
+use Rattle.std.proofs.Common.{◌≡◌, ◌≢◌, ℕ, ◌<◌, Bool, true, false, ◌==◌, List, [], length, get_or, slice_get, Option, Some, None, refl, sym, ap, ◌∙◌, ne_eqb, eq-eqb}
 use Rattle.tda_model.specs.Spine.{Spine, SpineUnit, IsUnit, IsTree, HasParent, level_of, parent_of, code_of, is_child, is_at}
 use Rattle.tda_model.proofs.Tree.{child_tells}
 use Rattle.std.proofs.lemmas.Option.{slice_get-get_or}
@@ -39,13 +38,3 @@ module _ (sp : Spine) (u : ℕ) where
 
   pub at_no : (level other : ℕ) → level_of sp u ≡ level → other ≢ level → is_at sp other u ≡ false
   at_no level other e ne = ne_eqb _ _ (λ same. ne (sym same ∙ e))
-
-  -- the nation alone has no parent
-  pub top_is : (nation : ℕ) → IsTree sp nation → IsUnit sp u → parent_of sp u ≡ None → u ≡ nation
-  top_is nation t here e = elim (cases_eq (level_of sp u) 0) [
-    | inl level ↦ t.root_alone u here level
-    | inr ne ↦ let p = t.parent u here (omega arith) in let named : parent_of sp u ≡ Some p.0 = p.1.named in cc
-  ]
-
-  pub is_top : (nation : ℕ) → IsTree sp nation → u ≡ nation → parent_of sp u ≡ None
-  is_top nation t e = ap (parent_of sp) e ∙ t.root_parent

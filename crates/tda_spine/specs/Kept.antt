@@ -1,6 +1,6 @@
 -- What a spine keeps beside its units.
 use Rattle.std.specs.Prelude.{ℕ, ◌≡◌, List, map}
-use Rattle.tda_model.specs.Spine.{Spine, SpineUnit, parents_of}
+use Rattle.tda_model.specs.Spine.{SpineUnit, parents_of}
 use Rattle.tda_spine.specs.Sound.{spine_of, IsSound, children_lists, level_lists, block_lists}
 use Rattle.tda_spine.specs.declared.tree.Tree.{Tree}
 

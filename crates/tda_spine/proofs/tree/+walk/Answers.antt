@@ -1,9 +1,8 @@
-use Rattle.std.proofs.Common.{◌≡◌, ◌<◌, ◌-◌, ◌++◌, ◌∷◌, [], ap, ◌∙◌, sym, length, get_or, refl, arith, subst, take, eq-eqb, ℕ}
+use Rattle.std.proofs.Common.{◌≡◌, ◌<◌, ◌-◌, ◌++◌, ◌∷◌, [], ap, ◌∙◌, sym, length, get_or, arith, eq-eqb, ℕ}
 use Rattle.std.specs.List.{flat_map}
 use Rattle.std.proofs.lemmas.List.{append-nil, take_all, nil_from_length}
 use Rattle.std.proofs.lemmas.Bool.{eqb-true, false≢true}
-use Rattle.tda_model.specs.Spine.{Spine, children_of, preorder_from}
-use Rattle.tda_spine.specs.Sound.{children_lists}
+use Rattle.tda_model.specs.Spine.{children_of, preorder_from}
 use Rattle.tda_spine.proofs.Walks.{children_length, children_get, among_children, preorder_none, preorder_some}
 use Rattle.tda_spine.proofs.tree.+walk.Goals.{then-steps-eq0-via-then-steps-eq0, then-steps-eq0-via-else-steps-eq0+then-is_empty}
 use Rattle.tda_spine.proofs.tree.+walk.Goals as goal

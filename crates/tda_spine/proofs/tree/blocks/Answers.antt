@@ -1,5 +1,5 @@
-use Rattle.std.proofs.Common.{◌≡◌, ◌<◌, ◌∙◌, ◌+◌, ◌-◌, ℕ, List, [], ◌∷◌, ◌++◌, cond, get_or, ap, sym, subst, length, arith}
-use Rattle.tda_model.specs.Spine.{level_of, nation_of, is_over}
+use Rattle.std.proofs.Common.{◌≡◌, ◌∙◌, ◌+◌, ℕ, List, [], ◌∷◌, ◌++◌, cond, get_or, ap, sym, subst, length, arith}
+use Rattle.tda_model.specs.Spine.{level_of}
 use Rattle.tda_spine.specs.Sound.{spine_of}
 use Rattle.tda_spine.proofs.Climbs.{is_block_of, block_is, block_not, blocks_are}
 use Rattle.tda_spine.proofs.Grouped.{Grouped, grouped_none, grouped_more, grouped_skip}

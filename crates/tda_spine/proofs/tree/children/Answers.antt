@@ -1,4 +1,4 @@
-use Rattle.std.proofs.Common.{◌≡◌, ◌∙◌, ◌<◌, ap, length, subst, sym, arith, Some, ℕ, List, ◌+◌, map}
+use Rattle.std.proofs.Common.{◌≡◌, ◌∙◌, ap, length, subst, sym, arith, Some, ℕ, List, ◌+◌, map}
 use Rattle.std.specs.List.{filter, range_with_len}
 use Rattle.tda_model.specs.Spine.{is_child, parent_of, nation_of}
 use Rattle.tda_spine.specs.Sound.{spine_of}

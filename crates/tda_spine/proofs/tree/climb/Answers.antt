@@ -1,4 +1,4 @@
-use Rattle.std.proofs.Common.{◌≡◌, ◌<◌, ◌+◌, ◌∙◌, ℕ, Option, Some, ap, sym, subst, length, arith}
+use Rattle.std.proofs.Common.{◌≡◌, ◌<◌, ◌+◌, ◌∙◌, ℕ, Option, ap, sym, subst, length, arith}
 use Rattle.tda_model.specs.Spine.{parent_of, level_of, nation_of}
 use Rattle.tda_spine.specs.Sound.{spine_of}
 use Rattle.tda_spine.proofs.Climbs.{Climbs, met, met_next, climb_start, climb_step}

@@ -1,4 +1,4 @@
-use Rattle.std.proofs.Common.{◌≡◌, ◌∙◌, ◌<◌, ap, length, subst, sym, arith, map}
+use Rattle.std.proofs.Common.{◌≡◌, ◌∙◌, ◌<◌, ap, length, sym, arith, map}
 use Rattle.std.specs.List.{filter, range_with_len}
 use Rattle.tda_model.specs.Spine.{is_at, level_of}
 use Rattle.tda_spine.specs.Sound.{spine_of}

@@ -1,4 +1,4 @@
-use Rattle.std.proofs.Common.{◌≡◌, ◌<◌, ◌∙◌, ap, length, get_or, [], arith}
+use Rattle.std.proofs.Common.{◌<◌, ◌∙◌, ap, length, get_or, [], arith}
 use Rattle.tda_spine.specs.Sound.{spine_of}
 use Rattle.tda_spine.proofs.Walks.{levels_length, levels_get}
 use Rattle.tda_spine.proofs.spine.Spine.at_level.Goals as goal

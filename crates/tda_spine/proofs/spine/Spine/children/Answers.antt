@@ -1,4 +1,4 @@
-use Rattle.std.proofs.Common.{◌≡◌, ◌<◌, ◌∙◌, ap, length, get_or, [], arith}
+use Rattle.std.proofs.Common.{◌<◌, ◌∙◌, ap, length, get_or, [], arith}
 use Rattle.tda_spine.specs.Sound.{spine_of}
 use Rattle.tda_spine.proofs.Walks.{children_length, children_get}
 use Rattle.tda_spine.proofs.spine.Spine.children.Goals as goal

@@ -1,4 +1,4 @@
-use Rattle.std.proofs.Common.{◌≡◌, ◌∙◌, sym}
+use Rattle.std.proofs.Common.{◌∙◌, sym}
 use Rattle.tda_spine.proofs.CodeLists.{named_by, named_is, unnamed}
 use Rattle.tda_spine.proofs.spine.Spine.find.Goals as goal
 

@@ -1,8 +1,7 @@
 use Rattle.std.proofs.Common.{◌≡◌, ◌<◌, ◌∙◌, ap, sym, length, get_or, arith, ◌++◌, []}
-use Rattle.std.specs.List.{range_with_len}
 use Rattle.std.proofs.lemmas.List.FromFn.{length-map-range_with_len}
-use Rattle.tda_model.specs.Spine.{units_at, nation_of, preorder_from, IsTree}
-use Rattle.tda_spine.specs.Sound.{spine_of, level_lists, children_lists}
+use Rattle.tda_model.specs.Spine.{units_at, nation_of, preorder_from}
+use Rattle.tda_spine.specs.Sound.{spine_of}
 use Rattle.tda_spine.proofs.Walks.{children_length, levels_get, nation_first, some_nation}
 use Rattle.tda_spine.proofs.tree.Tree.new.Goals as goal
 
