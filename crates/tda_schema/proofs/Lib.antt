@@ -1,3 +1,6 @@
 pub mod Thin
 pub mod CellOf
 pub mod Positions
+pub mod Each
+pub mod KeyLemmas
+pub mod Documents

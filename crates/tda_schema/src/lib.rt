@@ -2,7 +2,10 @@
 #![tactic(auto)]
 
 mod fault;
+mod keys;
+mod raw;
 mod readers;
+mod typed;
 
 pub use fault::SchemaFault;
 pub use readers::Schema;
