@@ -4,3 +4,5 @@ pub mod Positions
 pub mod Each
 pub mod KeyLemmas
 pub mod Documents
+pub mod Distinct
+pub mod Kept

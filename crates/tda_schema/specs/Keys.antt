@@ -1,8 +1,8 @@
 -- The keys of the tables of a document.
-use Rattle.std.specs.Prelude.{codes, ℕ, Bool, true, false, ◌&&◌, ◌||◌, List, [], ◌∷◌, Option, Some, None, is_some, option_and_then}
+use Rattle.std.specs.Prelude.{codes, ℕ, Bool, true, false, ◌&&◌, ◌||◌, List, is_some, option_and_then}
 use Rattle.std.specs.Option.{option_map_or}
 use Rattle.std.specs.Str.{bytes_eq}
-use Rattle.toml.specs.Data.{Data, Items, no_items, item, Members, no_members, member, get_member, as_array, as_table}
+use Rattle.toml.specs.Data.{Items, no_items, item, Members, no_members, member, get_member, as_array, as_table}
 use Rattle.tda_schema.specs.declared.keys.KeyTest.{KeyTest}
 use Rattle.tda_schema.specs.declared.keys.KeyTest.TheVariants.{Known, Complete}
 use Rattle.tda_schema.specs.declared.keys.TableKind.{TableKind}

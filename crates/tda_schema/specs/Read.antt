@@ -1,5 +1,5 @@
 -- What bytes are as a schema.
-use Rattle.std.specs.Prelude.{ℕ, Bool, not, List, [], map, Option, None, Result, Ok, if◌then◌else◌}
+use Rattle.std.specs.Prelude.{ℕ, not, List, [], map, Option, None, Result, Ok, if◌then◌else◌}
 use Rattle.std.specs.Str.{is_utf8}
 use Rattle.toml.specs.Data.{Members}
 use Rattle.toml.specs.Parse.{parse_document}

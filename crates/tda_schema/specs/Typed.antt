@@ -1,5 +1,5 @@
 -- The values of a document of the stated types.
-use Rattle.std.specs.Prelude.{codes, ℕ, ℤ, pos, negsuc, ◌==◌, Bool, true, false, not, List, [], ◌∷◌, Option, Some, None, Result, Ok, Err}
+use Rattle.std.specs.Prelude.{codes, ℕ, ℤ, pos, negsuc, ◌==◌, Bool, false, not, List, [], ◌∷◌, Option, Some, None, Result, Ok, Err}
 use Rattle.toml.specs.Data.{Data, Items, no_items, item, Members, no_members, member, get_member, as_str, as_integer, as_array, as_table}
 use Rattle.tda_io.specs.Due.{◌>>=◌, unless}
 use Rattle.tda_model.specs.Schema.{Attribute}

@@ -31,7 +31,10 @@ fn is_required(kind: TableKind, key: &str) -> bool
     ensures { result ≡ spec.is_required kind key.now }
 {
     match kind {
-        TableKind::Document => key == "version" || key == "total" || key == "attribute" || key == "level",
+        TableKind::Document => key == "version"
+            || key == "total"
+            || key == "attribute"
+            || key == "level",
         TableKind::Attribute => key == "name" || key == "values",
         TableKind::Recode => key == "name" || key == "of" || key == "map",
         TableKind::Level => key == "name",
@@ -77,7 +80,10 @@ fn is_complete(kind: TableKind, table: &Table) -> bool
     ensures { result ≡ spec.is_complete kind (table_view table.now) }
 {
     match kind {
-        TableKind::Document => has(table, "version") && has(table, "total") && has(table, "attribute") && has(table, "level"),
+        TableKind::Document => has(table, "version")
+            && has(table, "total")
+            && has(table, "attribute")
+            && has(table, "level"),
         TableKind::Attribute => has(table, "name") && has(table, "values"),
         TableKind::Recode => has(table, "name") && has(table, "of") && has(table, "map"),
         TableKind::Level => has(table, "name"),
@@ -113,7 +119,8 @@ fn elements_pass(test: KeyTest, kind: TableKind, key: &str, table: &Table) -> bo
 fn level_passes(test: KeyTest, table: &Table) -> bool
     ensures { result ≡ spec.level_passes test (table_view table.now) }
 {
-    table_passes(test, TableKind::Level, table) && elements_pass(test, TableKind::Query, "query", table)
+    table_passes(test, TableKind::Level, table)
+        && elements_pass(test, TableKind::Query, "query", table)
 }
 
 fn levels_pass(test: KeyTest, table: &Table) -> bool

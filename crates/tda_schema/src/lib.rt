@@ -3,9 +3,13 @@
 
 mod fault;
 mod keys;
+mod names;
 mod raw;
+mod reader;
 mod readers;
+mod sizes;
 mod typed;
 
 pub use fault::SchemaFault;
+pub use reader::read_schema;
 pub use readers::Schema;

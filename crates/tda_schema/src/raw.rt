@@ -93,10 +93,10 @@ impl<'a> Model for RawSchema<'a> {
     ghost Value = { raw.RawSchema };
 
     ghost view = { λ s. record {
-        total = s.total.now;
-        attributes = s.attributes.items;
-        recodes = s.recodes.items;
-        zeros = map (λ r. r.items) s.zeros.items;
-        levels = s.levels.items;
+      total = s.total.now;
+      attributes = s.attributes.items;
+      recodes = s.recodes.items;
+      zeros = map (λ r. r.items) s.zeros.items;
+      levels = s.levels.items;
     } };
 }

@@ -1,4 +1,3 @@
-use Rattle.std.proofs.Common.{codes}
 use Rattle.toml.specs.View.{table_view}
 use Rattle.tda_schema.specs.Keys as spec
 use Rattle.tda_schema.proofs.KeyLemmas.{Decided}
