@@ -2,7 +2,17 @@
 #![tactic(auto)]
 
 mod fault;
+mod keys;
+mod names;
+mod raw;
+mod reader;
 mod readers;
+mod sizes;
+mod typed;
 
 pub use fault::SchemaFault;
+pub use reader::read_schema;
 pub use readers::Schema;
+
+#[cfg(test)]
+mod tests;
