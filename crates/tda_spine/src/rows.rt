@@ -95,6 +95,7 @@ impl<'a> SpineRows<'a> {
         ensures place { result ≡ spec.parent_place self.now (slice_index_or self.now row []) }
         ensures in_range { IfSome result (λ p. p < length self.now) }
     {
+        // There are so few rows that a place fits.
         let _ = &self.rows;
         let parent = self.parent(row);
         if parent.is_empty() {

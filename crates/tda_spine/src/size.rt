@@ -68,6 +68,7 @@ fn has_large_root(schema: &Schema, draft: &Draft, possible: u64) -> bool
     requires few { possible < 2 ^ 32 }
     ensures { result ≡ spec.is_too_large (fit_size schema.now draft.now None) }
 {
+    // There is a first level.
     let _ = schema.levels();
     is_large_root(
         draft.count_at(1) as u64,
