@@ -1,9 +1,9 @@
 -- An accepted file is a tree of few units, no two of one code, within the limits.
-use Rattle.std.proofs.Common.{◌≡◌, ◌≢◌, ℕ, zero, suc, ◌+◌, ◌*◌, ◌<◌, ◌≤◌, ◌^◌, ◌==◌, ◌⊎◌, inl, inr, ⊎_elim, Bool, true, false, ◌&&◌, ◌||◌, not, nat_lt, cond, List, [], ◌∷◌, length, get_or, take, map, slice_get, position, option_and_then, unwrap_or, All, Option, Some, None, refl, sym, ap, subst, ◌∙◌, arith}
-use Rattle.std.specs.List.{list_any, range_with_len, filter}
+use Rattle.std.proofs.Common.{◌≡◌, ◌≢◌, ℕ, zero, suc, ◌+◌, ◌*◌, ◌<◌, ◌≤◌, ◌==◌, ◌⊎◌, inl, inr, Bool, true, false, ◌&&◌, ◌||◌, not, nat_lt, cond, List, [], ◌∷◌, length, get_or, take, map, slice_get, option_and_then, unwrap_or, All, Option, Some, None, refl, sym, ap, subst, ◌∙◌, arith}
+use Rattle.std.specs.List.{list_any}
 use Rattle.std.specs.Str.{bytes_eq}
 use Rattle.std.specs.Cmp.Lexicographic.{bytes_decides}
-use Rattle.std.proofs.lemmas.Bool.{cases_Bool, eqb-true, ltb-true}
+use Rattle.std.proofs.lemmas.Bool.{cases_Bool, eqb-true}
 use Rattle.std.proofs.lemmas.Bool.Decides.{nat_tests}
 use Rattle.std.proofs.lemmas.List.{length-map, length-take-le, get_or-take, get_or-map}
 use Rattle.std.proofs.lemmas.List.Quantifiers.{position-Some}
@@ -21,10 +21,9 @@ use Rattle.tda_spine.specs.Rows.{code_in, level_in, parent_in, is_empty, place_o
 use Rattle.tda_spine.specs.Judged.{row_fault, has_no_nation, is_inner, is_childless, has_childless, has_too_many, is_too_large, has_large_split, has_large_fit, spine_fault, IsWithinLimits}
 use Rattle.tda_spine.specs.Draft.{ParentIsBelow}
 use Rattle.tda_spine.specs.Sound.{IsSound}
-use Rattle.tda_spine.specs.declared.fault.SpineFault.{SpineFault}
 use Rattle.tda_spine.specs.declared.fault.SpineFault.TheVariants.{NotYet}
 use Rattle.tda_spine.proofs.Places.{place_of-below}
-use Rattle.tda_spine.proofs.Faults.{IsFine, each_fine}
+use Rattle.tda_spine.proofs.Faults.{each_fine}
 
 not-false : (b : Bool) → not b ≡ false → b ≡ true
 not-false true e = refl

@@ -1,11 +1,10 @@
 -- Rows without a fault.
-use Rattle.std.proofs.Common.{◌≡◌, ℕ, zero, suc, ◌+◌, ◌<◌, Bool, true, false, cond, List, [], ◌∷◌, ◌++◌, length, get_or, take, Option, Some, None, refl, sym, ap, subst, ◌∙◌, append_assoc, arith}
+use Rattle.std.proofs.Common.{◌≡◌, ℕ, zero, suc, ◌<◌, Bool, true, false, cond, List, [], ◌∷◌, ◌++◌, length, get_or, take, Option, Some, None, refl, sym, ap, ◌∙◌, append_assoc, arith}
 use Rattle.std.proofs.lemmas.List.{append-nil}
 use Rattle.tda_io.specs.Csv.{Row, first_fault, or_else}
 use Rattle.tda_model.specs.Schema.{Schema}
 use Rattle.tda_spine.specs.Rows.{is_bad_code, is_repeated, has_unknown_parent, has_wrong_level}
 use Rattle.tda_spine.specs.Judged.{row_fault}
-use Rattle.tda_spine.specs.declared.fault.SpineFault.{SpineFault}
 use Rattle.tda_spine.specs.declared.fault.SpineFault.TheVariants.{NotYet}
 
 first_none : {F : Type 0} (o p : Option F) → or_else o p ≡ None → o ≡ None

@@ -1,6 +1,6 @@
 -- A spine, and how many children each of its units has.
-use Rattle.std.specs.Prelude.{◌≡◌, ◌==◌, ℕ, ◌<◌, ◌^◌, Bool, false, List, length, slice_index, All, Option, Some, None, count_by}
-use Rattle.tda_model.specs.Spine.{Spine, SpineUnit, children_of, IsUnit}
+use Rattle.std.specs.Prelude.{◌≡◌, ◌==◌, ℕ, ◌<◌, ◌^◌, Bool, false, List, length, slice_index, All, Some, None, count_by}
+use Rattle.tda_model.specs.Spine.{SpineUnit}
 
 -- the unit's parent is p
 abbrev pub names_parent : ℕ → SpineUnit → Bool

@@ -1,4 +1,4 @@
-use Rattle.std.proofs.Common.{◌≡◌, ◌<◌, ◌≤◌, ◌^◌, ◌∙◌, sym, ap, arith, All, subst}
+use Rattle.std.proofs.Common.{◌<◌, ◌^◌, sym, arith, All, subst}
 use Rattle.tda_spine.proofs.Children.{room}
 use Rattle.tda_spine.proofs.draft.count_children.Goals as goal
 

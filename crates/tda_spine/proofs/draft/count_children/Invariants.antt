@@ -1,4 +1,4 @@
-use Rattle.std.proofs.Common.{◌≡◌, ℕ, ◌<◌, ◌≤◌, length, take, get_or, count_by}
+use Rattle.std.proofs.Common.{◌≡◌, ℕ, ◌<◌, length, take, get_or, count_by}
 use Rattle.tda_spine.specs.Draft.{names_parent}
 use Rattle.tda_spine.proofs.draft.count_children.Given as goal
 

@@ -1,4 +1,4 @@
-use Rattle.std.proofs.Common.{◌≡◌, ◌∙◌, ap, slice_index_or, [], option_and_then}
+use Rattle.std.proofs.Common.{◌∙◌, ap, slice_index_or, [], option_and_then}
 use Rattle.tda_spine.specs.Rows.{level_named, level_in}
 use Rattle.tda_spine.proofs.judge.parent_level.Goals as goal
 

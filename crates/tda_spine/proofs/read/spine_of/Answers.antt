@@ -1,4 +1,4 @@
-use Rattle.std.proofs.Common.{◌≡◌, ◌∙◌, ◌<◌, ◌^◌, sym, ap, subst, length, List, All, map, arith, None}
+use Rattle.std.proofs.Common.{◌≡◌, ◌∙◌, ◌<◌, sym, ap, subst, length, List, All, map, arith, None}
 use Rattle.std.proofs.lemmas.List.{length-map}
 use Rattle.tda_model.specs.Spine.{Spine, SpineUnit}
 use Rattle.tda_spine.specs.Draft.{ParentIsBelow}

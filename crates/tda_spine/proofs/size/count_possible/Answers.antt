@@ -1,4 +1,4 @@
-use Rattle.std.proofs.Common.{◌≡◌, ◌∙◌, ◌+◌, ◌<◌, sym, arith}
+use Rattle.std.proofs.Common.{◌∙◌, ◌<◌, sym, arith}
 use Rattle.tda_model.specs.Cells.{cell_count, is_possible}
 use Rattle.tda_spine.proofs.Numbers.{count_next-yes, count_next-no, count_all}
 use Rattle.tda_spine.proofs.size.count_possible.Goals as goal

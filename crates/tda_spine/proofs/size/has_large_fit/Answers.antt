@@ -1,8 +1,7 @@
-use Rattle.std.proofs.Common.{◌∙◌, ◌||◌, sym, ap, length, None, arith}
+use Rattle.std.proofs.Common.{◌∙◌, ◌||◌, sym, ap, length, arith}
 use Rattle.std.specs.List.{list_any}
-use Rattle.tda_model.specs.Sizes.{fit_size}
 use Rattle.tda_model.specs.Spine.{unit_numbers}
-use Rattle.tda_spine.specs.Judged.{has_large_split, is_too_large}
+use Rattle.tda_spine.specs.Judged.{has_large_split}
 use Rattle.tda_spine.proofs.Numbers.{none_so_far, one_passes, none_passes}
 use Rattle.tda_spine.proofs.size.has_large_fit.Goals as goal
 

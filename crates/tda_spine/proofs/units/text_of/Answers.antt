@@ -1,4 +1,3 @@
-use Rattle.std.proofs.Common.{◌≡◌, IsUtf8, Result, Ok, Err, IsOk, MatchResult}
 use Rattle.tda_spine.proofs.Names.{name-text, ok-of}
 use Rattle.tda_spine.proofs.units.text_of.Goals as goal
 

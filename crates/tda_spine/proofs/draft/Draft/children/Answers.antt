@@ -1,4 +1,3 @@
-use Rattle.std.proofs.Common.{◌≡◌, ◌<◌, ◌≤◌, ◌∙◌, sym, ap, length, arith, count_by, get_or}
 use Rattle.tda_spine.proofs.Children.{child_count, child_count-few}
 use Rattle.tda_spine.proofs.draft.Draft.children.Goals as goal
 

@@ -1,4 +1,4 @@
-use Rattle.std.proofs.Common.{◌≡◌, ◌<◌, ◌≤◌, ◌==◌, ◌∙◌, sym, ap, length, arith, count_by, take}
+use Rattle.std.proofs.Common.{◌==◌, ◌∙◌, sym, ap, count_by}
 use Rattle.std.proofs.lemmas.List.{take_all}
 use Rattle.tda_spine.proofs.Children.{units-count}
 use Rattle.tda_spine.proofs.draft.Draft.count_at.Goals as goal

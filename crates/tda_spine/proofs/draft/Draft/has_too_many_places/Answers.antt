@@ -1,4 +1,4 @@
-use Rattle.std.proofs.Common.{◌≡◌, ◌∙◌, sym, ap, arith}
+use Rattle.std.proofs.Common.{◌∙◌, ap, arith}
 use Rattle.tda_model.specs.Sizes.{places_at}
 use Rattle.tda_spine.proofs.Limits.{too_many, not_many}
 use Rattle.tda_spine.proofs.draft.Draft.has_too_many_places.Goals as goal

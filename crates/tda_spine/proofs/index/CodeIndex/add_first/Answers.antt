@@ -1,4 +1,4 @@
-use Rattle.std.proofs.Common.{◌≡◌, ◌∙◌, ap, sym, is_some, true, false}
+use Rattle.std.proofs.Common.{◌≡◌, ◌∙◌, ap, sym, is_some, true}
 use Rattle.tda_spine.specs.Index.{found}
 use Rattle.tda_spine.proofs.Finds.{lookup-codes, found-again, found-insert}
 use Rattle.tda_spine.proofs.index.CodeIndex.add_first.Goals as goal

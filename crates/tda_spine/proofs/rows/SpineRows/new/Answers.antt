@@ -1,4 +1,4 @@
-use Rattle.std.proofs.Common.{◌≡◌, ◌<◌, ◌∙◌, sym, ap, length, length-drop, arith, cond, take, Some, None}
+use Rattle.std.proofs.Common.{◌<◌, ◌∙◌, sym, ap, length, length-drop, arith, cond, take, Some, None}
 use Rattle.std.specs.Str.{bytes_eq}
 use Rattle.tda_io.specs.Csv.{after_header, or_else}
 use Rattle.tda_spine.specs.Rows.{place_of}
