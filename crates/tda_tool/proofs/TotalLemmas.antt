@@ -1,5 +1,5 @@
 -- What the entries of units say of the rows of a file of totals.
-use Rattle.std.proofs.Common.{◌≡◌, ◌≢◌, ℕ, zero, suc, ◌+◌, ◌*◌, ◌^◌, ◌<◌, ◌≤◌, ℤ, pos, negsuc, Bool, true, false, ◌&&◌, ◌||◌, not, cond, eqb, nat_le, nat_lt, List, [], ◌∷◌, ◌++◌, map, length, get_or, set, take, replicate, Option, Some, None, is_some, is_none, unwrap_or, option_map, option_and_then, refl, sym, ap, subst, ◌∙◌, inl, inr, arith, All, find, sum, position}
+use Rattle.std.proofs.Common.{◌≡◌, ◌≢◌, ℕ, zero, suc, ◌+◌, ◌*◌, ◌^◌, ◌<◌, ◌≤◌, ℤ, pos, negsuc, Bool, true, false, ◌&&◌, ◌||◌, not, cond, eqb, nat_le, nat_lt, List, [], ◌∷◌, ◌++◌, map, length, get_or, set, take, replicate, Option, Some, None, is_some, is_none, unwrap_or, option_map, option_and_then, refl, sym, ap, subst, ◌∙◌, inl, inr, arith, All, find, sum, Ok, Err}
 use Rattle.std.proofs.lemmas.Bool.{cases_Bool, cases_eq, cases_lt, eqb-true, eq-eqb, lt-ltb, ltb-true, leb-true}
 use Rattle.std.proofs.lemmas.List.{take_more, length-set, get_or-set_same, get_or-set_other, get_or-map, get_or-replicate, length-replicate, length-map}
 use Rattle.std.proofs.lemmas.List.Elements.{All-from_get_or, All-filter, All-get_or}
@@ -12,12 +12,13 @@ use Rattle.std.specs.Cmp.Lexicographic.{bytes_decides}
 use Rattle.std.specs.List.{filter, list_all, list_any, range_with_len, sum_by, slice_get, position_or_len}
 use Rattle.std.specs.Option.{option_or}
 use Rattle.std.specs.Str.{bytes_eq}
-use Rattle.tda_io.specs.Csv.{Row}
+use Rattle.tda_io.specs.Csv.{Row, first_fault, has_header, after_header, judged}
 use Rattle.tda_io.specs.Texts.{int_of}
 use Rattle.tda_model.specs.Bounds.{persons_limit}
 use Rattle.tda_model.specs.Spine.{Spine, SpineUnit, IsUnit, code_of, level_of, is_at, units_at, unit_numbers}
-use Rattle.tda_spine.specs.Sound.{IsSound, unit_named}
-use Rattle.tda_tool.specs.Totals.{state_in, count_in, count_of, as_count, count_named, persons_of, persons_for, is_state, is_repeated, has_missing, has_too_many, row_fault, totals_of, IsStateOf, Says, Gathered}
+use Rattle.tda_spine.specs.Sound.{IsSound}
+use Rattle.tda_tool.specs.Totals.{state_in, count_in, count_of, as_count, count_named, persons_of, persons_for, is_state, is_repeated, has_missing, has_too_many, row_fault, totals_of, format, IsStateOf, Says, Gathered}
+use Rattle.tda_tool.specs.declared.totals.TotFault.TheVariants.{NotYet}
 
 -- ---- lists
 
@@ -37,32 +38,7 @@ list_all-same p q (x ∷ xs) h =
     let rest : list_all p xs ≡ list_all q xs = list_all-same p q xs (λ k d l. h (suc k) d (omega arith)) in
     rw (here, rest) refl
 
-position_none : {X : Type 0} (p : X → Bool) (xs : List X) (k : ℕ) (d : X) → position p xs ≡ None → k < length xs → p (get_or xs k d) ≡ false
-position_none p xs k d none below = elim (cases_lt (position_or_len p xs) (length xs)) [
-  | inl lt ↦ let t : nat_lt (position_or_len p xs) (length xs) ≡ true = lt-ltb (position_or_len p xs) (length xs) lt in cc (rw t at none)
-  | inr le ↦ fails_before_first p xs k d (omega arith)
-]
-
 -- ---- units and their codes
-
-no_unit : SpineUnit
-no_unit = record { code = []; level = 0; parent = None }
-
-code_at : (sp : Spine) (u : ℕ) → IsUnit sp u → (get_or sp.units u no_unit).code ≡ code_of sp u
-code_at sp u here =
-    let is = slice_get-get_or sp.units u no_unit here in
-    sym (ap (λ o. elim o as (λ _. List ℕ) [ Some x ↦ x.code | None ↦ [] ]) is)
-
-pub named_is : (sp : Spine) (code : List ℕ) (u : ℕ) → unit_named sp code ≡ Some u → IsUnit sp u × (code_of sp u ≡ code)
-named_is sp code u e =
-    let found = position-Some (λ x. bytes_eq x.code code) sp.units u no_unit e in
-    (found.0, sym (code_at sp u found.0) ∙ (bytes_decides (get_or sp.units u no_unit).code code).0 found.1)
-
-pub named_none : (sp : Spine) (code : List ℕ) → unit_named sp code ≡ None → (v : ℕ) → IsUnit sp v → code_of sp v ≢ code
-named_none sp code e v here same =
-    let fails = position_none (λ x. bytes_eq x.code code) sp.units v no_unit e here in
-    let holds = (bytes_decides (get_or sp.units v no_unit).code code).1 (code_at sp v here ∙ same) in
-    cc
 
 -- a code is that of one unit
 pub same_unit : (sp : Spine) → IsSound sp → (u v : ℕ) → IsUnit sp u → IsUnit sp v → code_of sp u ≡ code_of sp v → u ≡ v
@@ -107,13 +83,12 @@ is_state_no sp code none =
     ]
 
 -- no unit has the code
-pub no_state : (sp : Spine) (code : List ℕ) → unit_named sp code ≡ None → is_state sp code ≡ false
-no_state sp code e = is_state_no sp code (λ v h. named_none sp code e v h.here h.named)
+pub no_state : (sp : Spine) (code : List ℕ) → ((u : ℕ) → IsUnit sp u → code_of sp u ≡ code → ⊥) → is_state sp code ≡ false
+no_state sp code none = is_state_no sp code (λ v h. none v h.here h.named)
 
 -- the unit of the code is of another level
-pub other_level : (sp : Spine) (code : List ℕ) (u : ℕ) → IsSound sp → unit_named sp code ≡ Some u → level_of sp u ≢ 1 → is_state sp code ≡ false
-other_level sp code u sound e other = is_state_no sp code (λ v h.
-    let (here, named) = named_is sp code u e in
+pub other_level : (sp : Spine) (code : List ℕ) (u : ℕ) → IsSound sp → IsUnit sp u → code_of sp u ≡ code → level_of sp u ≢ 1 → is_state sp code ≡ false
+other_level sp code u sound here named other = is_state_no sp code (λ v h.
     let same : u ≡ v = same_unit sp sound u v here h.here (named ∙ sym h.named) in
     other (ap (level_of sp) same ∙ h.level))
 
@@ -201,6 +176,10 @@ module _ (sp : Spine) where
   pub no_fault : (earlier : List Row) (row : Row) (state count : ℕ) → Says sp earlier row state count → row_fault sp earlier row ≡ None
   no_fault earlier row state count s = rw (is_state_yes sp (state_in row) state s.of_state, s.first, s.counted) refl
 
+  -- a row whose state stands before
+  pub fault_again : (earlier : List Row) (row : Row) (state : ℕ) → IsStateOf sp (state_in row) state → is_repeated earlier row ≡ true → row_fault sp earlier row ≡ Some NotYet
+  fault_again earlier row state h again = rw (is_state_yes sp (state_in row) state h, again) refl
+
   -- one more row, and its entry
   module _ (sound : IsSound sp) (rows : List Row) (k : ℕ) (below : k < length rows) (entries : List (Option ℕ)) (state count : ℕ)
       (g : Gathered sp (take k rows) entries) (s : Says sp (take k rows) (get_or rows k []) state count) where
@@ -287,3 +266,15 @@ module _ (sp : Spine) where
 -- each number is at most the sum of all
 pub each_within : (counts : List ℕ) (m : ℕ) → sum counts ≤ m → All (λ n. n ≤ m) counts
 each_within counts m h = All-from_get_or (λ n. n ≤ m) counts 0 (λ i l. let le = get_or-le-sum_by (λ n. n) counts i 0 l in omega arith)
+
+-- ---- the whole file
+
+module _ (sp : Spine) (rows : List Row) (header : has_header (format sp).header rows ≡ true) (fine : first_fault (row_fault sp) [] (after_header rows) ≡ None) where
+  pub judged_missing : has_missing sp (after_header rows) ≡ true → judged (format sp) rows ≡ Err NotYet
+  judged_missing missing = rw (header, fine, missing) refl
+
+  pub judged_many : has_missing sp (after_header rows) ≡ false → has_too_many (after_header rows) ≡ true → judged (format sp) rows ≡ Err NotYet
+  judged_many none many = rw (header, fine, none, many) refl
+
+  pub judged_ok : has_missing sp (after_header rows) ≡ false → has_too_many (after_header rows) ≡ false → judged (format sp) rows ≡ Ok (totals_of sp (after_header rows))
+  judged_ok none few = rw (header, fine, none, few) refl

@@ -149,6 +149,7 @@ fn judge(spine: &Spine, entries: &[Option<u64>], rows: &Rows, row: usize) -> Res
 fn entries_of(alloc: Global, spine: &Spine, rows: &Rows) -> Result<Vec<Option<u64>>, TotFault>
     requires some { 0 < length rows.now }
     requires width { row_width rows.now ≡ 2 }
+    ensures sound { IsSound spine.now }
     ensures fine { IfOk result (λ _. csv.first_fault (spec.row_fault spine.now) [] (after_header rows.now) ≡ None) }
     ensures ok { IfOk result (λ entries. Gathered spine.now (after_header rows.now) entries.items) }
     ensures err { IfErr result (λ f. f ≢ fault.NoMemory → csv.first_fault (spec.row_fault spine.now) [] (after_header rows.now) ≡ Some f) }
