@@ -1,21 +1,19 @@
 -- What the entries of units say of the rows of a file of totals.
-use Rattle.std.proofs.Common.{◌≡◌, ◌≢◌, ℕ, zero, suc, ◌+◌, ◌*◌, ◌^◌, ◌<◌, ◌≤◌, ℤ, pos, negsuc, Bool, true, false, ◌&&◌, ◌||◌, not, cond, eqb, nat_le, nat_lt, List, [], ◌∷◌, ◌++◌, map, length, get_or, set, take, replicate, Option, Some, None, is_some, is_none, unwrap_or, option_map, option_and_then, refl, sym, ap, subst, ◌∙◌, inl, inr, arith, All, find, sum, Ok, Err}
-use Rattle.std.proofs.lemmas.Bool.{cases_Bool, cases_eq, cases_lt, eqb-true, eq-eqb, lt-ltb, ltb-true, leb-true}
+use Rattle.std.proofs.Common.{◌≡◌, ◌≢◌, ℕ, suc, ◌+◌, ◌*◌, ◌<◌, ◌≤◌, ℤ, pos, negsuc, Bool, true, false, ◌&&◌, ◌||◌, cond, nat_le, List, [], ◌∷◌, ◌++◌, map, length, get_or, set, take, replicate, Option, Some, None, is_some, unwrap_or, option_map, option_and_then, refl, sym, ap, subst, ◌∙◌, inl, inr, arith, All, find, sum, Ok, Err}
+use Rattle.std.proofs.lemmas.Bool.{cases_Bool, cases_eq, cases_lt, eqb-true, eq-eqb, leb-true}
 use Rattle.std.proofs.lemmas.List.{take_more, length-set, get_or-set_same, get_or-set_other, get_or-map, get_or-replicate, length-replicate, length-map}
-use Rattle.std.proofs.lemmas.List.Elements.{All-from_get_or, All-filter, All-get_or}
+use Rattle.std.proofs.lemmas.List.Elements.{All-from_get_or, All-filter}
 use Rattle.std.proofs.lemmas.List.Folds.{find-append, list_any_none, list_any_at, sum_by-replicate}
 use Rattle.std.proofs.lemmas.List.FromFn.{length-range_with_len, get_or-range_with_len, fill_by_all}
-use Rattle.std.proofs.lemmas.List.Quantifiers.{position-Some}
-use Rattle.std.proofs.lemmas.List.Sums.{sum_by_more, sum_by-set, sum-map, sum_by-le, fails_before_first, get_or-le-sum_by}
-use Rattle.std.proofs.lemmas.Option.{slice_get-get_or}
+use Rattle.std.proofs.lemmas.List.Sums.{sum_by_more, sum_by-set, sum-map, sum_by-le, get_or-le-sum_by}
 use Rattle.std.specs.Cmp.Lexicographic.{bytes_decides}
-use Rattle.std.specs.List.{filter, list_all, list_any, range_with_len, sum_by, slice_get, position_or_len}
+use Rattle.std.specs.List.{filter, list_all, list_any, sum_by}
 use Rattle.std.specs.Option.{option_or}
 use Rattle.std.specs.Str.{bytes_eq}
 use Rattle.tda_io.specs.Csv.{Row, first_fault, has_header, after_header, judged}
 use Rattle.tda_io.specs.Texts.{int_of}
 use Rattle.tda_model.specs.Bounds.{persons_limit}
-use Rattle.tda_model.specs.Spine.{Spine, SpineUnit, IsUnit, code_of, level_of, is_at, units_at, unit_numbers}
+use Rattle.tda_model.specs.Spine.{Spine, IsUnit, code_of, level_of, is_at, units_at, unit_numbers}
 use Rattle.tda_spine.specs.Sound.{IsSound}
 use Rattle.tda_tool.specs.Totals.{state_in, count_in, count_of, as_count, count_named, persons_of, persons_for, is_state, is_repeated, has_missing, has_too_many, row_fault, totals_of, format, IsStateOf, Says, Gathered}
 use Rattle.tda_tool.specs.declared.totals.TotFault.TheVariants.{NotYet}
@@ -69,9 +67,9 @@ is_state_no sp code none =
     is_state-range sp code
     ∙ list_any_none (λ v. is_at sp 1 v && bytes_eq code (code_of sp v)) (unit_numbers sp)
     (All-from_get_or (λ v. (is_at sp 1 v && bytes_eq code (code_of sp v)) ≡ false) (unit_numbers sp) 0 (λ i l.
-        let len = length-range_with_len 0 (length sp.units) in
-        let at : get_or (unit_numbers sp) i 0 ≡ i = get_or-range_with_len 0 (length sp.units) i 0 (omega arith) ∙ omega arith in
-        rw at (fails i (omega arith))))
+    let len = length-range_with_len 0 (length sp.units) in
+    let at : get_or (unit_numbers sp) i 0 ≡ i = get_or-range_with_len 0 (length sp.units) i 0 (omega arith) ∙ omega arith in
+    rw at (fails i (omega arith))))
   where
     fails : (v : ℕ) → IsUnit sp v → (is_at sp 1 v && bytes_eq code (code_of sp v)) ≡ false
     fails v here = elim (cases_Bool (is_at sp 1 v)) [
@@ -164,7 +162,7 @@ module _ (sp : Spine) where
   gathered_none n size = record {
     size = length-replicate n None ∙ size;
     entry = λ u l. get_or-replicate n u None None (omega arith);
-    whole = sum_by-replicate (λ e. unwrap_or e 0) n None ∙ omega arith
+    whole = sum_by-replicate (λ e. unwrap_or e 0) n None ∙ omega arith;
   }
 
   pub is_repeated_by : (earlier : List Row) (row : Row) (entries : List (Option ℕ)) (u : ℕ) → Gathered sp earlier entries → IsStateOf sp (state_in row) u
@@ -221,10 +219,10 @@ module _ (sp : Spine) where
         | inr other ↦ at_other u here other
       ];
       whole =
-        let one = sum_by-set (λ e. unwrap_or e 0) entries state (Some count) None (let h = s.of_state.here in omega (arith, g.size)) in
-        let zero : unwrap_or (entry_at entries state) 0 ≡ 0 = ap (λ o. unwrap_or o 0) none_yet in
-        let more = sum_by_more persons_of rows k [] below in
-        omega (arith, one, zero, more, own_count, g.whole)
+          let one = sum_by-set (λ e. unwrap_or e 0) entries state (Some count) None (let h = s.of_state.here in omega (arith, g.size)) in
+          let zero : unwrap_or (entry_at entries state) 0 ≡ 0 = ap (λ o. unwrap_or o 0) none_yet in
+          let more = sum_by_more persons_of rows k [] below in
+          omega (arith, one, zero, more, own_count, g.whole);
     }
 
   -- what the entries say once all rows are read
@@ -233,9 +231,9 @@ module _ (sp : Spine) where
     states_within =
         All-filter (is_at sp 1) (λ u. u < length sp.units) (unit_numbers sp)
         (All-from_get_or (λ u. u < length sp.units) (unit_numbers sp) 0 (λ i l.
-            let len = length-range_with_len 0 (length sp.units) in
-            let at : get_or (unit_numbers sp) i 0 ≡ 0 + i = get_or-range_with_len 0 (length sp.units) i 0 (omega arith) in
-            omega arith))
+        let len = length-range_with_len 0 (length sp.units) in
+        let at : get_or (unit_numbers sp) i 0 ≡ 0 + i = get_or-range_with_len 0 (length sp.units) i 0 (omega arith) in
+        omega arith))
 
     pub states_entered : All (λ u. u < length entries) (units_at sp 1)
     states_entered k d l = let h = states_within k d l in omega (arith, h, g.size)
@@ -257,9 +255,9 @@ module _ (sp : Spine) where
     pub sum_small : sum (map (λ e. unwrap_or e 0) entries) ≤ length sp.units * persons_limit
     sum_small =
         let each : All (λ e. unwrap_or e 0 ≤ persons_limit) entries = All-from_get_or (λ e. unwrap_or e 0 ≤ persons_limit) entries None (λ u l.
-            let is = g.entry u (omega (arith, g.size)) in
-            let P : Option ℕ → Type 0 = λ e. unwrap_or e 0 ≤ persons_limit in
-            subst P (sym is) (persons_for-small rows (code_of sp u))) in
+        let is = g.entry u (omega (arith, g.size)) in
+        let P : Option ℕ → Type 0 = λ e. unwrap_or e 0 ≤ persons_limit in
+        subst P (sym is) (persons_for-small rows (code_of sp u))) in
         let le = sum_by-le (λ e. unwrap_or e 0) persons_limit entries each in
         rw (sum-map (λ e. unwrap_or e 0) entries) (let P : ℕ → Type 0 = λ n. sum_by (λ e. unwrap_or e 0) entries ≤ n * persons_limit in subst P g.size le)
 

@@ -1,5 +1,5 @@
 -- The file of totals: how many persons live in each state.
-use Rattle.std.specs.Prelude.{◌≡◌, ◌<◌, ◌≤◌, ℕ, ℤ, pos, negsuc, Bool, false, not, if◌then◌else◌, codes, length, List, [], ◌∷◌, map, sum_by, slice_index_or, nat_le, nat_lt, Option, Some, None, is_none, option_and_then, option_map, unwrap_or, Result, find}
+use Rattle.std.specs.Prelude.{◌≡◌, ◌<◌, ℕ, ℤ, pos, negsuc, Bool, false, not, if◌then◌else◌, codes, length, List, [], ◌∷◌, map, sum_by, slice_index_or, nat_le, nat_lt, Option, Some, None, is_none, option_and_then, option_map, unwrap_or, Result, find}
 use Rattle.std.specs.List.{list_any, list_all}
 use Rattle.std.specs.Str.{bytes_eq}
 use Rattle.tda_model.specs.Spine.{Spine, IsUnit, code_of, level_of, units_at, unit_numbers}
@@ -72,7 +72,7 @@ format sp = record {
   header = codes "state" ∷ codes "total" ∷ [];
   row_fault = λ rows. row_fault sp;
   file_fault = file_fault sp;
-  value = totals_of sp
+  value = totals_of sp;
 }
 
 -- the totals of a file, or its fault

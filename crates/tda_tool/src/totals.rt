@@ -14,13 +14,15 @@ ghost use Rattle.tda_tool.specs.declared.totals.TotFault.TheVariants as fault;
 
 use std::alloc::{AllocError, AllocFailed, Global};
 use std::marker::Model;
-use tda_io::NoMemory as OutOfMemory;
-use tda_io::{RowFault, Rows, has_header, read_int, read_rows};
+use tda_io::{NoMemory as OutOfMemory, RowFault, Rows, has_header, read_int, read_rows};
 use tda_spine::Spine;
 use thiserror::Error;
 
 // The most persons of a state, and of all states together.
 const PERSONS: u64 = 1 << 30;
+
+// The level of the states.
+const STATES: usize = 1;
 
 /// Why a text gave no totals.
 #[derive(Clone, Copy, Debug, PartialEq, Eq, Error)]
@@ -97,7 +99,7 @@ fn state_named(spine: &Spine, code: &[u8]) -> Option<u32>
     ensures none { IfNone result (spec.is_state spine.now code.now ≡ false) }
 {
     let unit = spine.find(code)?;
-    if spine.level(unit) == 1 {
+    if spine.level(unit) == STATES {
         Some(unit)
     } else {
         None
@@ -109,7 +111,7 @@ fn count_named(text: &[u8]) -> Option<u64>
     ensures { result ≡ spec.count_named text.now }
 {
     let number = read_int(text)?;
-    if 0 <= number && number <= PERSONS as i128 {
+    if (0..=i128::from(PERSONS)).contains(&number) {
         Some(number as u64)
     } else {
         None
@@ -118,19 +120,24 @@ fn count_named(text: &[u8]) -> Option<u64>
 
 // What a row says: how many persons live in a state.
 #[derive(Clone, Copy)]
-struct Entry {
+struct StateTotal {
     state: u32,
     count: u64,
 }
 
 // What a row says, or its fault, beside what the rows before it say of each unit.
-fn judge(spine: &Spine, entries: &[Option<u64>], rows: &Rows, row: usize) -> Result<Entry, TotFault>
+fn judge(
+    spine: &Spine,
+    entries: &[Option<u64>],
+    rows: &Rows,
+    row: usize,
+) -> Result<StateTotal, TotFault>
     requires sound { IsSound spine.now }
     requires gathered { Gathered spine.now (take row (after_header rows.now)) entries.now }
     requires small { length rows.now < 2 ^ 64 }
     requires row { row + 1 < length rows.now }
     requires width { row_width rows.now ≡ 2 }
-    ensures ok { IfOk result (λ e. Says spine.now (take row (after_header rows.now)) (slice_index_or (after_header rows.now) row []) e.state e.count) }
+    ensures ok { IfOk result (λ t. Says spine.now (take row (after_header rows.now)) (slice_index_or (after_header rows.now) row []) t.state t.count) }
     ensures err { IfErr result (λ f. spec.row_fault spine.now (take row (after_header rows.now)) (slice_index_or (after_header rows.now) row []) ≡ Some f) }
 {
     let Some(state) = state_named(spine, field(rows, row, 0)) else {
@@ -142,7 +149,7 @@ fn judge(spine: &Spine, entries: &[Option<u64>], rows: &Rows, row: usize) -> Res
     let Some(count) = count_named(field(rows, row, 1)) else {
         return Err(TotFault::NotYet);
     };
-    Ok(Entry { state, count })
+    Ok(StateTotal { state, count })
 }
 
 // What all rows say of each unit, or the fault of the first row that has one.
@@ -156,8 +163,8 @@ fn entries_of(alloc: Global, spine: &Spine, rows: &Rows) -> Result<Vec<Option<u6
 {
     let mut entries = vec![in alloc; None; spine.units() as usize]?;
     for row in 0..rows.len() - 1 {
-        let entry = judge(spine, &entries, rows, row)?;
-        entries[entry.state as usize] = Some(entry.count);
+        let total = judge(spine, &entries, rows, row)?;
+        entries[total.state as usize] = Some(total.count);
     }
     Ok(entries)
 }
@@ -182,7 +189,10 @@ fn have_entries(states: &[u32], entries: &[Option<u64>]) -> bool
 fn counts_of(alloc: Global, entries: &[Option<u64>]) -> Result<Vec<u64>, AllocError>
     ensures { IfOk result (λ counts. counts.items ≡ map (λ e. unwrap_or e 0) entries.now) }
 {
-    entries.iter().map(|entry| entry.unwrap_or(0)).collect(alloc)
+    entries
+        .iter()
+        .map(|entry| entry.unwrap_or(0))
+        .collect(alloc)
 }
 
 // Whether the counts pass the limit together.
@@ -203,7 +213,7 @@ fn judged(alloc: Global, spine: &Spine, rows: &Rows) -> Result<Totals, TotFault>
         return Err(TotFault::NotYet);
     }
     let entries = entries_of(alloc, spine, rows)?;
-    if !have_entries(spine.at_level(1), &entries) {
+    if !have_entries(spine.at_level(STATES), &entries) {
         return Err(TotFault::NotYet);
     }
     let counts = counts_of(alloc, &entries)?;

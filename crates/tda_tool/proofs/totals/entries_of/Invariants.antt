@@ -1,4 +1,4 @@
-use Rattle.std.proofs.Common.{◌≡◌, take, []}
+use Rattle.std.proofs.Common.{take, []}
 use Rattle.tda_io.specs.Csv.{after_header, first_fault}
 use Rattle.tda_io.proofs.Loops.{Leads}
 use Rattle.tda_tool.specs.Totals.{row_fault, Gathered}

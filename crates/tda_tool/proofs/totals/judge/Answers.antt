@@ -1,4 +1,4 @@
-use Rattle.std.proofs.Common.{◌≡◌, ◌∙◌, sym, ap, true, take, get_or, []}
+use Rattle.std.proofs.Common.{◌∙◌, sym, ap, take, get_or, []}
 use Rattle.tda_io.specs.Csv.{after_header}
 use Rattle.tda_tool.specs.Totals.{IsStateOf, state_in, count_named}
 use Rattle.tda_tool.proofs.TotalLemmas.{is_repeated_by, fault_again}
@@ -23,5 +23,5 @@ returns-clause-ok c =
     record {
       of_state = state;
       first = sym same ∙ sym c.if-has_entry.ensures;
-      counted = sym (c.in-Some-count_named.ensures ∙ ap count_named c.field-2.ensures)
+      counted = sym (c.in-Some-count_named.ensures ∙ ap count_named c.field-2.ensures);
     }

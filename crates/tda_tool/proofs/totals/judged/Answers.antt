@@ -1,7 +1,6 @@
-use Rattle.std.proofs.Common.{◌≡◌, ◌<◌, ◌*◌, ◌≤◌, ◌^◌, ◌∙◌, not, nat_lt, sym, ap, length, sum, map, unwrap_or, Ok, arith}
+use Rattle.std.proofs.Common.{◌≡◌, ◌∙◌, not, nat_lt, sym, ap, sum, map, unwrap_or, Ok, arith}
 use Rattle.tda_io.specs.Csv.{after_header}
 use Rattle.tda_model.specs.Bounds.{persons_limit}
-use Rattle.tda_tool.specs.Totals.{has_missing, has_too_many}
 use Rattle.tda_tool.proofs.TotalLemmas.{states_entered, entered_are, totals_are, sum_is, sum_small, judged_missing, judged_ok}
 use Rattle.tda_tool.proofs.totals.judged.Goals as goal
 

@@ -6,12 +6,12 @@ pub returns-in_err-unit-clause-none : goal.returns-in_err-unit-clause-none
 returns-in_err-unit-clause-none c =
     rw c.from_residual.ensures (no_state c.args.spine.now c.args.code.now c.in_err-unit.ensures.absent)
 
-pub returns-then-level-eq1-clause-some : goal.returns-then-level-eq1-clause-some
-returns-then-level-eq1-clause-some c =
+pub returns-then-level-eq-STATES-clause-some : goal.returns-then-level-eq-STATES-clause-some
+returns-then-level-eq-STATES-clause-some c =
     let found = c.in_ok-unit.ensures.found in
-    record { here = found.0; level = sym c.level.ensures ∙ c.if-level-eq1.true; named = found.1 }
+    record { here = found.0; level = sym c.level.ensures ∙ c.if-level-eq-STATES.true; named = found.1 }
 
-pub returns-else-level-eq1-clause-none : goal.returns-else-level-eq1-clause-none
-returns-else-level-eq1-clause-none c =
+pub returns-else-level-eq-STATES-clause-none : goal.returns-else-level-eq-STATES-clause-none
+returns-else-level-eq-STATES-clause-none c =
     let found = c.in_ok-unit.ensures.found in
-    other_level c.args.spine.now c.args.code.now c.in_ok-unit.unit c.requires found.0 found.1 (λ e. c.if-level-eq1.false (c.level.ensures ∙ e))
+    other_level c.args.spine.now c.args.code.now c.in_ok-unit.unit c.requires found.0 found.1 (λ e. c.if-level-eq-STATES.false (c.level.ensures ∙ e))
