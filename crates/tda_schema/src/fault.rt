@@ -12,6 +12,7 @@ pub enum SchemaFault {
     /// The text is no schema, or one that isn't read yet.
     #[error("no schema that is read yet")]
     NotYet,
+    /// There was not enough memory.
     #[error("out of memory")]
     NoMemory,
 }

@@ -13,3 +13,6 @@ mod typed;
 pub use fault::SchemaFault;
 pub use reader::read_schema;
 pub use readers::Schema;
+
+#[cfg(test)]
+mod tests;

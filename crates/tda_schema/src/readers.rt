@@ -9,6 +9,11 @@ ghost use Rattle.tda_schema.specs.Readers.{values_of, IsWithinLimits, IsThin};
 
 use std::marker::Model;
 
+// So far there is one cell, so all possible cells and those of the one kind are one group, and there is no query.
+const GROUPS: u32 = 1;
+
+const PLACES: u64 = 0;
+
 #[derive(Debug, Drop)]
 pub(crate) struct Attribute {
     pub(crate) name: String,
@@ -201,7 +206,7 @@ impl Schema {
         ensures { result ≡ groups_at self.now level }
     {
         let _ = &self.levels;
-        1
+        GROUPS
     }
 
     /// How many places each unit of a level has: one for each class of each query.
@@ -210,6 +215,6 @@ impl Schema {
         ensures { result ≡ places_at self.now level }
     {
         let _ = &self.levels;
-        0
+        PLACES
     }
 }

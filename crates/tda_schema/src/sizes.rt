@@ -11,18 +11,18 @@ fn is_within(least: usize, most: usize, n: usize) -> bool
     least <= n && n <= most
 }
 
+fn attribute_has_size(attribute: &RawAttribute<'_>) -> bool
+    ensures { result ≡ spec.attribute_has_size attribute.now }
+{
+    is_within(1, 128, attribute.values.len())
+}
+
 fn attributes_have_sizes(attributes: &[RawAttribute<'_>]) -> bool
     ensures { result ≡ list_all spec.attribute_has_size attributes.now }
 {
     attributes
         .iter()
         .all(|attribute| attribute_has_size(attribute))
-}
-
-fn attribute_has_size(attribute: &RawAttribute<'_>) -> bool
-    ensures { result ≡ spec.attribute_has_size attribute.now }
-{
-    is_within(1, 128, attribute.values.len())
 }
 
 fn level_has_size(level: &RawLevel<'_>) -> bool
