@@ -155,7 +155,7 @@ module _ (sp : Spine) (placed : (u : ℕ) → IsUnit sp u → IsPlaced sp u) whe
       let empty : (length (children_of sp u) == 0) ≡ true = ap (λ n. n == 0) e in
       let test : is_childless sp u ≡ true = ap (λ b. b && (length (children_of sp u) == 0)) inner ∙ empty in
       let found = list_any_at (is_childless sp) (unit_numbers sp) u 0 (omega (arith, length-range_with_len 0 (length sp.units), unit))
-          (ap (is_childless sp) (get_or-range_with_len 0 (length sp.units) u 0 unit ∙ omega arith) ∙ test) in
+      (ap (is_childless sp) (get_or-range_with_len 0 (length sp.units) u 0 unit ∙ omega arith) ∙ test) in
       absurd cc)
 
   module _ (one : has_no_nation sp ≡ false) where
@@ -253,7 +253,7 @@ within_limits s rows none =
               let inner : is_inner sp u ≡ true = grind (arith, nat_tests) in
               let test : has_large_split s sp u ≡ true = ap (λ b. b && is_too_large (fit_size s sp (Some u))) inner ∙ large in
               let found = list_any_at (has_large_split s sp) (unit_numbers sp) u 0 (omega (arith, length-range_with_len 0 (length sp.units), unit))
-                  (ap (has_large_split s sp) (get_or-range_with_len 0 (length sp.units) u 0 unit ∙ omega arith) ∙ test) in
+              (ap (has_large_split s sp) (get_or-range_with_len 0 (length sp.units) u 0 unit ∙ omega arith) ∙ test) in
               absurd cc
           | inr small ↦ small
         ]

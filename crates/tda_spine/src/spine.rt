@@ -147,3 +147,6 @@ impl Spine {
         self.tree.parents.as_slice()
     }
 }
+
+#[cfg(test)]
+mod tests;
