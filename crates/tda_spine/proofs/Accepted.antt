@@ -1,12 +1,13 @@
 -- An accepted file is a tree of few units, no two of one code, within the limits.
-use Rattle.std.proofs.Common.{◌≡◌, ◌≢◌, ℕ, zero, suc, ◌+◌, ◌*◌, ◌<◌, ◌≤◌, ◌^◌, ◌==◌, ◌⊎◌, inl, inr, ⊎_elim, Bool, true, false, ◌&&◌, ◌||◌, not, nat_lt, cond, List, [], ◌∷◌, length, get_or, take, map, slice_get, position, option_and_then, unwrap_or, Option, Some, None, refl, sym, ap, subst, ◌∙◌, arith}
+use Rattle.std.proofs.Common.{◌≡◌, ◌≢◌, ℕ, zero, suc, ◌+◌, ◌*◌, ◌<◌, ◌≤◌, ◌^◌, ◌==◌, ◌⊎◌, inl, inr, ⊎_elim, Bool, true, false, ◌&&◌, ◌||◌, not, nat_lt, cond, List, [], ◌∷◌, length, get_or, take, map, slice_get, position, option_and_then, unwrap_or, All, Option, Some, None, refl, sym, ap, subst, ◌∙◌, arith}
 use Rattle.std.specs.List.{list_any, range_with_len, filter}
 use Rattle.std.specs.Str.{bytes_eq}
 use Rattle.std.specs.Cmp.Lexicographic.{bytes_decides}
 use Rattle.std.proofs.lemmas.Bool.{cases_Bool, eqb-true, ltb-true}
 use Rattle.std.proofs.lemmas.Bool.Decides.{nat_tests}
-use Rattle.std.proofs.lemmas.List.{length-map, length-take-le}
+use Rattle.std.proofs.lemmas.List.{length-map, length-take-le, get_or-take, get_or-map}
 use Rattle.std.proofs.lemmas.List.Quantifiers.{position-Some}
+use Rattle.std.proofs.lemmas.List.Elements.{All-from_get_or}
 use Rattle.std.proofs.lemmas.List.Folds.{list_any_at}
 use Rattle.std.proofs.lemmas.List.FromFn.{length-range_with_len, get_or-range_with_len}
 use Rattle.std.proofs.lemmas.Option.{slice_get-map, slice_get-get_or}
@@ -18,6 +19,7 @@ use Rattle.tda_model.specs.Sizes.{FitSize, fit_size, place_count, units_limit, c
 use Rattle.tda_model.proofs.Sums.{Each, each_filter, filter_each, each_range, range_each}
 use Rattle.tda_spine.specs.Rows.{code_in, level_in, parent_in, is_empty, place_of, parent_place, parent_level, level_named, fits_parent, unit_of, spine_in}
 use Rattle.tda_spine.specs.Judged.{row_fault, has_no_nation, is_inner, is_childless, has_childless, has_too_many, is_too_large, has_large_split, has_large_fit, spine_fault, IsWithinLimits}
+use Rattle.tda_spine.specs.Draft.{ParentIsBelow}
 use Rattle.tda_spine.specs.Sound.{IsSound}
 use Rattle.tda_spine.specs.declared.fault.SpineFault.{SpineFault}
 use Rattle.tda_spine.specs.declared.fault.SpineFault.TheVariants.{NotYet}
@@ -46,6 +48,13 @@ then_some : {A B : Type 0} (f : A → Option B) (o : Option A) (y : B) → optio
 then_some f None y e = cc
 then_some f (Some x) y e = (x, refl, e)
 
+parent_place-below : (rows : List Row) (row : Row) (p : ℕ) → parent_place rows row ≡ Some p → p < length rows
+parent_place-below rows row p named = by (is_empty (parent_in row)) named
+  where
+    by : (b : Bool) → cond b None (place_of rows (parent_in row)) ≡ Some p → p < length rows
+    by true e = cc
+    by false e = place_of-below rows (parent_in row) p e
+
 -- a unit has the first level and no parent, or a parent
 abbrev pub IsPlaced : Spine → ℕ → Type 0
 IsPlaced sp u = ((level_of sp u ≡ 0) × (parent_of sp u ≡ None)) ⊎ ((p : ℕ) × HasParent sp u p)
@@ -69,6 +78,17 @@ module _ (s : Schema) (rows : List Row) where
   code_is : (u : ℕ) → u < length rows → code_of sp u ≡ code_in (get_or rows u [])
   code_is u here = ap (λ o. elim o as (λ _. List ℕ) [ Some x ↦ x.code | None ↦ [] ]) (unit_is u here)
 
+  abbrev nobody : SpineUnit
+  nobody = record { code = []; level = 0; parent = None }
+
+  -- a parent is one of the units
+  pub parents_below : All (ParentIsBelow (length (map (unit_of s rows) rows))) (map (unit_of s rows) rows)
+  parents_below =
+      All-from_get_or (ParentIsBelow (length (map (unit_of s rows) rows))) (map (unit_of s rows) rows) nobody (λ u within.
+      let here : u < length rows = omega (arith, many, within) in
+      subst (ParentIsBelow (length (map (unit_of s rows) rows))) (sym (get_or-map (unit_of s rows) rows u [] nobody here))
+      (λ p named. let below = parent_place-below rows (get_or rows u []) p named in omega (arith, many, below)))
+
   module _ (none : first_fault (row_fault s rows) [] rows ≡ None) where
     row_fits : (u : ℕ) → u < length rows
         → ((level_named s (level_in (get_or rows u [])) ≡ Some 0) × (is_empty (parent_in (get_or rows u [])) ≡ true))
@@ -91,23 +111,34 @@ module _ (s : Schema) (rows : List Row) where
               inr (p.0, record { here = omega (arith, many, there); named = parent_is u here ∙ p.1; above = omega (arith, level, above) })
         ]
 
-    level_within : (u : ℕ) → IsUnit sp u → level_of sp u < sp.depth
-    level_within u unit =
-        let here : u < length rows = omega (arith, many, unit) in
+    row_level : (u : ℕ) → u < length rows → (unit_of s rows (get_or rows u [])).level < length s.levels
+    row_level u here =
         let row = get_or rows u [] in
         let empty : Level = record { name = []; queries = [] } in
         let below = λ (l : ℕ) (e : level_named s (level_in row) ≡ Some l). (position-Some (λ v. bytes_eq v.name (level_in row)) s.levels l empty e).0 in
         elim (row_fits u here) [
-          | inl h ↦ omega (arith, level_is u here ∙ ap (λ o. unwrap_or o 0) h.0, below 0 h.0)
-          | inr h ↦ omega (arith, level_is u here ∙ ap (λ o. unwrap_or o 0) h.1, below (suc h.0) h.1)
+          | inl h ↦ omega (arith, ap (λ o. unwrap_or o 0) h.0, below 0 h.0)
+          | inr h ↦ omega (arith, ap (λ o. unwrap_or o 0) h.1, below (suc h.0) h.1)
         ]
+
+    level_within : (u : ℕ) → IsUnit sp u → level_of sp u < sp.depth
+    level_within u unit =
+        let here : u < length rows = omega (arith, many, unit) in
+        omega (arith, level_is u here, row_level u here)
+
+    -- the units are of the schema's levels
+    pub levels_within : All (λ x. x.level < length s.levels) (map (unit_of s rows) rows)
+    levels_within =
+        All-from_get_or (λ x. x.level < length s.levels) (map (unit_of s rows) rows) nobody (λ u within.
+        let here : u < length rows = omega (arith, many, within) in
+        subst (λ x. x.level < length s.levels) (sym (get_or-map (unit_of s rows) rows u [] nobody here)) (row_level u here))
 
     codes_differ : (u v : ℕ) → u < v → IsUnit sp v → code_of sp u ≡ code_of sp v → ⊥
     codes_differ u v before unit same =
         let here : v < length rows = omega (arith, many, unit) in
         let row = get_or rows v [] in
         let len : length (take v rows) ≡ v = length-take-le v rows (omega arith) in
-        let earlier : get_or (take v rows) u [] ≡ get_or rows u [] = ? in
+        let earlier : get_or (take v rows) u [] ≡ get_or rows u [] = get_or-take v rows u [] before in
         let equal : code_in row ≡ code_in (get_or (take v rows) u []) = sym (code_is v here) ∙ sym same ∙ code_is u (omega arith) ∙ ap code_in (sym earlier) in
         let test = (bytes_decides (code_in row) (code_in (get_or (take v rows) u []))).1 equal in
         let found = list_any_at (λ e. bytes_eq (code_in row) (code_in e)) (take v rows) u [] (omega (arith, len)) test in

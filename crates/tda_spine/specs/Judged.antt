@@ -1,7 +1,8 @@
 -- Which files are spines of a schema, and which spine each is: each thing that can be wrong is a test of its own, and they stand in the order in which they are judged.
-use Rattle.std.specs.Prelude.{codes, ◌≡◌, ◌≤◌, ◌<◌, ℕ, ◌+◌, ◌*◌, Bool, ◌&&◌, ◌||◌, ◌==◌, not, List, [], ◌∷◌, length, nat_lt, Option, Some, None, Result, if◌then◌else◌}
+use Rattle.std.specs.Prelude.{codes, ◌≡◌, ◌≤◌, ◌<◌, ℕ, ◌+◌, ◌*◌, Bool, ◌&&◌, ◌||◌, ◌==◌, not, List, [], ◌∷◌, length, nat_lt, Option, Some, None, Result, Ok, if◌then◌else◌}
 use Rattle.std.specs.List.{list_any}
 use Rattle.tda_io.specs.Csv as csv
+use Rattle.tda_io.specs.Due.{◌>>◌, none_of}
 use Rattle.tda_io.specs.Csv.{Row, Format}
 use Rattle.tda_model.specs.Schema.{Schema}
 use Rattle.tda_model.specs.Cells.{cell_count}
@@ -63,6 +64,10 @@ spine_fault s sp =
     else if has_too_many s sp then Some NotYet
     else if has_large_fit s sp then Some NotYet
     else None
+
+-- the spine, or its fault
+abbrev pub judged_spine : Schema → Spine → Result Spine SpineFault
+judged_spine s sp = none_of (spine_fault s sp) >> Ok sp
 
 abbrev pub format : Schema → Format SpineFault Spine
 format s = record {

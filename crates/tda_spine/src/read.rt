@@ -1,9 +1,10 @@
 // Reads a spine.
-ghost use Rattle.std.specs.Prelude.{◌≡◌, ◌≤◌, ◌<◌, ◌^◌, length, IfOk};
+ghost use Rattle.std.specs.Prelude.{◌≡◌, ◌≤◌, ◌<◌, ◌^◌, [], None, length, IfOk};
 ghost use Rattle.tda_io.specs.Csv as csv;
 ghost use Rattle.tda_io.specs.Due.{Gives};
 ghost use Rattle.tda_spine.specs.Judged as spec;
 ghost use Rattle.tda_spine.specs.Judged.{IsWithinLimits};
+ghost use Rattle.tda_spine.specs.Rows.{spine_in};
 ghost use Rattle.tda_spine.specs.Sound.{IsSound};
 
 use crate::draft::Draft;
@@ -34,6 +35,22 @@ fn spine_fault(schema: &Schema, draft: &Draft) -> Option<SpineFault>
     }
 }
 
+// The spine of rows without a fault.
+fn spine_of(alloc: Global, schema: &Schema, rows: &SpineRows) -> Result<Spine, SpineFault>
+    requires few { length rows.now < 2 ^ 30 }
+    requires fine { csv.first_fault (spec.row_fault schema.now rows.now) [] rows.now ≡ None }
+    ensures gives { Gives SpineFault.NoMemory (λ spine. spine) result (spec.judged_spine schema.now (spine_in schema.now rows.now)) }
+    ensures sound { IfOk result (λ spine. IsSound spine) }
+    ensures limits { IfOk result (IsWithinLimits schema.now) }
+{
+    let units = units_of(alloc, schema, rows)?;
+    let draft = Draft::new(alloc, schema.levels(), units)?;
+    if let Some(fault) = spine_fault(schema, &draft) {
+        return Err(fault);
+    }
+    Ok(draft.into_spine(alloc)?)
+}
+
 // The spine of rows, of which the first has to be the header.
 fn judged(alloc: Global, schema: &Schema, rows: &Rows) -> Result<Spine, SpineFault>
     requires { length rows.now < 2 ^ 30 }
@@ -48,12 +65,7 @@ fn judged(alloc: Global, schema: &Schema, rows: &Rows) -> Result<Spine, SpineFau
     if let Some(fault) = first_fault(schema, &rows) {
         return Err(fault);
     }
-    let units = units_of(alloc, schema, &rows)?;
-    let draft = Draft::new(alloc, schema.levels(), units)?;
-    if let Some(fault) = spine_fault(schema, &draft) {
-        return Err(fault);
-    }
-    Ok(draft.into_spine(alloc)?)
+    spine_of(alloc, schema, &rows)
 }
 
 /// The spine that a text of at most 2^28 bytes is, for a schema. Its rows after the header `unit,level,parent` are the
