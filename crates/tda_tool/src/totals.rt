@@ -1,12 +1,11 @@
 // The file of totals: how many persons live in each state.
-ghost use Rattle.std.specs.Prelude.{◌≡◌, ◌≢◌, ◌+◌, ◌<◌, ◌≤◌, ◌^◌, not, false, All, is_none, is_some, nat_lt, ℕ, List, [], length, map, sum, take, slice_index, slice_index_or, unwrap_or, IfErr, IfOk, IfNone, IfSome, Some, None};
+ghost use Rattle.std.specs.Prelude.{◌≡◌, ◌≢◌, ◌+◌, ◌<◌, ◌≤◌, ◌^◌, false, All, is_some, nat_lt, [], length, map, sum, take, slice_index, slice_index_or, unwrap_or, IfErr, IfOk, IfNone, IfSome, Some, None};
 ghost use Rattle.std.specs.List.{list_all};
 ghost use Rattle.tda_io.specs.Csv as csv;
 ghost use Rattle.tda_io.specs.Csv.{after_header};
 ghost use Rattle.tda_io.specs.Due.{Gives};
 ghost use Rattle.tda_io.specs.Rows.{row_width};
 ghost use Rattle.tda_model.specs.Bounds.{persons_limit};
-ghost use Rattle.tda_model.specs.Spine.{units_at};
 ghost use Rattle.tda_spine.specs.Sound.{IsSound};
 ghost use Rattle.tda_tool.specs.Totals as spec;
 ghost use Rattle.tda_tool.specs.Totals.{read, Gathered, IsStateOf, Says};
