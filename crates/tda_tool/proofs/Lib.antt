@@ -1,0 +1,4 @@
+pub mod Attaining
+pub mod OneCell
+pub mod Parents
+pub mod PlainCounts

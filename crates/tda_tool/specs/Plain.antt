@@ -1,0 +1,21 @@
+-- How many persons each unit has in the plain tables, in which below the states the first child of a unit has all that the unit has.
+use Rattle.std.specs.Prelude.{ℕ, zero, suc, Bool, false, ◌==◌, if◌then◌else◌, List, [], ◌∷◌, sum_by, slice_index, Some, None}
+use Rattle.tda_model.specs.Spine.{Spine, level_of, parent_of, units_at, children_of}
+
+-- all states' totals together
+abbrev pub national_total : Spine → List ℕ → ℕ
+national_total sp totals = sum_by (slice_index totals) (units_at sp 1)
+
+abbrev pub is_first : List ℕ → ℕ → Bool
+is_first [] u = false
+is_first (c ∷ rest) u = c == u
+
+-- of a unit and its level: the nation has all, a state its total, and below the first child has what its parent has
+abbrev pub plain_at : Spine → List ℕ → ℕ → ℕ → ℕ
+plain_at sp totals zero u = national_total sp totals
+plain_at sp totals (suc zero) u = slice_index totals u
+plain_at sp totals (suc (suc l)) u =
+    elim (parent_of sp u) [ Some p ↦ if is_first (children_of sp p) u then plain_at sp totals (suc l) p else 0 | None ↦ 0 ]
+
+abbrev pub plain_count : Spine → List ℕ → ℕ → ℕ
+plain_count sp totals u = plain_at sp totals (level_of sp u) u
