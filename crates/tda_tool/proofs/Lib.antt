@@ -1,4 +1,9 @@
 pub mod Attaining
 pub mod OneCell
 pub mod Parents
+pub mod OneCellAttained
+pub mod OneCellText
 pub mod PlainCounts
+pub mod ThinSchema
+pub mod Names
+pub mod PlainText

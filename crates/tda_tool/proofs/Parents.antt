@@ -1,7 +1,8 @@
 -- What holds of each unit with children holds of each that stands in fit order.
 use Rattle.std.proofs.Common.{ℕ, zero, suc, ◌+◌, ◌<◌, List, [], ◌∷◌, ◌++◌, ◌≡◌, arith}
-use Rattle.std.specs.List.{flat_map}
-use Rattle.tda_model.specs.Spine.{Spine, level_of, children_of, preorder_from, IsUnit, HasParent, IsTree}
+use Rattle.std.proofs.lemmas.List.Elements.{All-from_recursion}
+use Rattle.std.specs.List.{All, flat_map}
+use Rattle.tda_model.specs.Spine.{Spine, level_of, children_of, preorder_from, nation_of, parents_of, IsUnit, HasParent, IsTree}
 use Rattle.tda_model.proofs.Sums.{Each, each_weaker}
 use Rattle.tda_tool.proofs.Attaining.{each_child}
 
@@ -29,7 +30,11 @@ module _ (sp : Spine) (nation : ℕ) (t : IsTree sp nation) (P : ℕ → Type 0)
         each_joined P (preorder_from sp steps) (c ∷ cs) (below c e.here, each_weaker (IsChild u) _ cs (λ d i. below d i.here) es),
       )
 
-  pub each_parent_from : (steps u : ℕ) → IsUnit sp u → Each P (preorder_from sp steps u)
+  each_parent_from : (steps u : ℕ) → IsUnit sp u → Each P (preorder_from sp steps u)
   each_parent_from zero u here = tt
   each_parent_from (suc steps) u here =
       with_children steps u here (each_parent_from steps) (children_of sp u) (each_child sp nation t (IsChild u) u (λ c here_c up. record { here = here_c; up = up }))
+
+-- all at once, in fit order
+pub each_parent : (sp : Spine) (P : ℕ → Type 0) → IsTree sp (nation_of sp) → ((p : ℕ) → IsUnit sp p → level_of sp p + 1 < sp.depth → P p) → All P (parents_of sp)
+each_parent sp P t h = All-from_recursion P (parents_of sp) (each_parent_from sp (nation_of sp) t P h sp.depth (nation_of sp) t.root)

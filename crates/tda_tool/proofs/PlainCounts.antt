@@ -1,12 +1,13 @@
 -- The plain counts add up, and each state has its total.
-use Rattle.std.proofs.Common.{◌≡◌, ℕ, zero, suc, ◌+◌, ◌<◌, cond, ◌==◌, Some, None, List, [], ◌∷◌, refl, sym, ap, ◌∙◌, subst, inl, inr, arith, ne_eqb, eq-eqb, length}
+use Rattle.std.proofs.Common.{◌≡◌, ℕ, zero, suc, ◌+◌, ◌<◌, ◌≤◌, slice_index, cond, ◌==◌, Some, None, List, [], ◌∷◌, refl, sym, ap, ◌∙◌, subst, inl, inr, arith, ne_eqb, eq-eqb, length}
 use Rattle.std.proofs.lemmas.Bool.{cases_eq, cases_Bool}
 use Rattle.std.proofs.lemmas.List.Sums.{sum_by-cons}
-use Rattle.std.specs.List.{sum_by, slice_index, range_with_len}
-use Rattle.tda_model.specs.Spine.{Spine, level_of, is_at, is_child, children_of, units_at, IsUnit, HasParent, IsTree}
-use Rattle.tda_model.proofs.Sums.{Each, sum_same, sum_zero, sum_filter, each_range, each_weaker, range_each, filter_each, Ascends, range_ascends, filter_ascends}
+use Rattle.std.specs.List.{All, sum, sum_by, range_with_len}
+use Rattle.std.proofs.lemmas.List.Elements.{All-from_recursion}
+use Rattle.tda_model.specs.Spine.{Spine, level_of, parent_of, is_at, is_child, children_of, units_at, IsUnit, HasParent, IsTree}
+use Rattle.tda_model.proofs.Sums.{Each, sum_same, sum_zero, sum_filter, sum_filter_le, sum_by_index, each_filter, each_range, each_weaker, range_each, filter_each, Ascends, range_ascends, filter_ascends}
 use Rattle.tda_model.proofs.Tree.{child_tells}
-use Rattle.tda_tool.specs.Plain.{is_first, plain_at, plain_count}
+use Rattle.tda_tool.specs.Plain.{national_total, is_first, plain_at, plain_count}
 use Rattle.tda_tool.proofs.Attaining.{child_named, each_child}
 use Rattle.tda_tool.proofs.OneCell.{IsShared}
 
@@ -74,3 +75,46 @@ module _ (sp : Spine) (nation : ℕ) (t : IsTree sp nation) (totals : List ℕ) 
     state = λ u here e. ap (λ m. plain_at sp totals m u) e;
     adds = λ p here low. adds_at (level_of sp p) p here refl low;
   }
+
+  pub named_parent : (u p : ℕ) → IsUnit sp u → parent_of sp u ≡ Some p → HasParent sp u p
+  named_parent u p here e = child_tells sp nation t p u here (child_named sp u p e)
+
+  -- the count of a unit by its parent
+  pub count_alone : (u : ℕ) → IsUnit sp u → parent_of sp u ≡ None → plain_count sp totals u ≡ national_total sp totals
+  count_alone u here e = elim (cases_eq (level_of sp u) 0) [
+    | inl is ↦ ap (λ m. plain_at sp totals m u) is
+    | inr ne ↦ let p = t.parent u here (omega arith) in let named = p.1.named in absurd cc
+  ]
+
+  pub count_state : (u : ℕ) → level_of sp u ≡ 1 → plain_count sp totals u ≡ slice_index totals u
+  count_state u e = ap (λ m. plain_at sp totals m u) e
+
+  pub count_below : (u p : ℕ) → IsUnit sp u → parent_of sp u ≡ Some p → (level_of sp u ≡ 1 → ⊥)
+      → plain_count sp totals u ≡ cond (is_first (children_of sp p) u) (plain_count sp totals p) 0
+  count_below u p here e ne = below (level_of sp p) refl
+    where
+      below : (l : ℕ) → level_of sp p ≡ l → plain_count sp totals u ≡ cond (is_first (children_of sp p) u) (plain_count sp totals p) 0
+      below zero k =
+          let above : level_of sp u ≡ level_of sp p + 1 = (named_parent u p here e).above in absurd (ne (omega arith))
+      below (suc l) k =
+          let above : level_of sp u ≡ level_of sp p + 1 = (named_parent u p here e).above in
+          let two : level_of sp u ≡ suc (suc l) = omega arith in
+          ap (λ m. plain_at sp totals m u) two
+          ∙ ap (λ o. elim o as (λ _. ℕ) [ Some q ↦ cond (is_first (children_of sp q) u) (plain_at sp totals (suc l) q) 0 | None ↦ 0 ]) e
+          ∙ ap (λ m. cond (is_first (children_of sp p) u) (plain_at sp totals m p) 0) (sym k)
+
+-- all states' totals are at most the sum of the list
+pub national_le : (sp : Spine) (totals : List ℕ) → length totals ≡ length sp.units → national_total sp totals ≤ sum totals
+national_le sp totals sized =
+    let e = sum_by_index (λ n. n) totals 0 in
+    let same : sum_by (slice_index totals) (range_with_len 0 (length totals)) ≡ sum_by (slice_index totals) (range_with_len 0 (length sp.units)) =
+    ap (λ n. sum_by (slice_index totals) (range_with_len 0 n)) sized in
+    omega (arith, sum_filter_le (slice_index totals) (is_at sp 1) (range_with_len 0 (length sp.units)))
+
+pub states_within : (sp : Spine) (n : ℕ) → n ≡ length sp.units → All (λ u. u < n) (units_at sp 1)
+states_within sp n sized =
+    All-from_recursion (λ u. u < n) (units_at sp 1) (each_filter (λ u. u < n) (is_at sp 1) _ (each_range _ 0 (length sp.units) (λ u low high is. omega arith)))
+
+pub children_within : (sp : Spine) (p : ℕ) → All (λ u. u < length sp.units) (children_of sp p)
+children_within sp p =
+    All-from_recursion (λ u. u < length sp.units) (children_of sp p) (each_filter (λ u. u < length sp.units) (is_child sp p) _ (each_range _ 0 (length sp.units) (λ u low high is. omega arith)))
