@@ -4,6 +4,4 @@ pub mod Parents
 pub mod OneCellAttained
 pub mod OneCellText
 pub mod PlainCounts
-pub mod ThinSchema
-pub mod Names
 pub mod PlainText

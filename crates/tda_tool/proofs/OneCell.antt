@@ -1,5 +1,5 @@
 -- Tables whose persons all stand in one cell, of the first kind, where there are no facilities.
-use Rattle.std.proofs.Common.{◌≡◌, ℕ, zero, suc, ◌+◌, ◌-◌, ◌<◌, ◌≤◌, true, cond, eqb, ◌==◌, refl, sym, ap, ◌∙◌, inl, inr, arith, ne_eqb, eq-eqb, length}
+use Rattle.std.proofs.Common.{◌≡◌, ℕ, zero, suc, ◌+◌, ◌-◌, ◌<◌, ◌≤◌, cond, eqb, ◌==◌, refl, sym, ap, ◌∙◌, inl, inr, arith, ne_eqb, eq-eqb, length}
 use Rattle.std.proofs.lemmas.Bool.{cases_eq, eqb-true}
 use Rattle.std.specs.List.{filter, sum_by}
 use Rattle.tda_model.specs.Schema.{Schema}
@@ -8,13 +8,8 @@ use Rattle.tda_model.specs.Spine.{Spine, level_of, is_child, children_of, blocks
 use Rattle.tda_model.specs.Tables.{Tables, Published, kind_sum, persons_in, AddUp, Attainable}
 use Rattle.tda_model.specs.Bounds.{persons_limit, low, high, InBounds, MostHolds}
 use Rattle.tda_model.proofs.Sums.{sum_same, sum_one, sum_filter_le, sum_zero, each_filter, each_any, range_each, filter_each, each_le_sum}
+use Rattle.tda_tool.specs.Plain.{IsHome}
 use Rattle.tda_tool.proofs.Attaining.{child_named, attained}
-
--- a possible cell of the first kind
-pub record IsHome (s : Schema) (home : ℕ) : Type 0 where
-  pub here : home < cell_count s
-  pub possible : is_possible s home ≡ true
-  pub first : kind_of s home ≡ 0
 
 pub record HasNoFacilities (known : Published) : Type 0 where
   pub none : (b k : ℕ) → known.facilities b k ≡ 0

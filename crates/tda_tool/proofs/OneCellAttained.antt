@@ -4,7 +4,8 @@ use Rattle.tda_model.specs.Spine.{level_of, children_of, nation_of, IsUnit, IsTr
 use Rattle.tda_model.specs.Tables.{AddUp}
 use Rattle.tda_model.specs.Bounds.{persons_limit}
 use Rattle.tda_tool.specs.Attained.{Inputs, IsAttained, known_of}
-use Rattle.tda_tool.proofs.OneCell.{IsHome, HasNoFacilities, IsShared, in_cell, cells_add, cells_attained}
+use Rattle.tda_tool.specs.Plain.{IsHome}
+use Rattle.tda_tool.proofs.OneCell.{HasNoFacilities, IsShared, in_cell, cells_add, cells_attained}
 use Rattle.tda_tool.proofs.Parents.{each_parent}
 
 no_facilities : (i : Inputs) → HasNoFacilities (known_of i)

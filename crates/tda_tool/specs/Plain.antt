@@ -1,5 +1,7 @@
--- How many persons each unit has in the plain tables, in which below the states the first child of a unit has all that the unit has.
-use Rattle.std.specs.Prelude.{ℕ, zero, suc, Bool, false, ◌==◌, if◌then◌else◌, List, [], ◌∷◌, sum_by, slice_index, Some, None}
+-- The plain tables: all persons are in one cell, and below the states the first child of a unit has all that the unit has.
+use Rattle.std.specs.Prelude.{ℕ, zero, suc, ◌≡◌, ◌<◌, Bool, true, false, ◌==◌, if◌then◌else◌, List, [], ◌∷◌, sum_by, slice_index, Some, None}
+use Rattle.tda_model.specs.Schema.{Schema}
+use Rattle.tda_model.specs.Cells.{cell_count, is_possible, kind_of}
 use Rattle.tda_model.specs.Spine.{Spine, level_of, parent_of, units_at, children_of, code_of}
 use Rattle.tda_model.specs.TablesText.{count_row}
 
@@ -21,6 +23,12 @@ plain_at sp totals (suc (suc l)) u =
 abbrev pub plain_count : Spine → List ℕ → ℕ → ℕ
 plain_count sp totals u = plain_at sp totals (level_of sp u) u
 
--- the row of a unit in the file of the plain tables, whose persons are all in the first cell
-abbrev pub plain_row : Spine → List ℕ → ℕ → List ℕ
-plain_row sp totals u = count_row (code_of sp u) 0 (plain_count sp totals u)
+-- a possible cell of the first kind
+pub record IsHome (s : Schema) (home : ℕ) : Type 0 where
+  pub here : home < cell_count s
+  pub possible : is_possible s home ≡ true
+  pub first : kind_of s home ≡ 0
+
+-- the row of a unit in the file of the plain tables, whose persons are all in one cell
+abbrev pub plain_row : Spine → List ℕ → ℕ → ℕ → List ℕ
+plain_row sp totals home u = count_row (code_of sp u) home (plain_count sp totals u)

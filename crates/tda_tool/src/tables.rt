@@ -1,15 +1,13 @@
 // The text of the plain tables.
-ghost use Rattle.std.specs.Prelude.{◌≡◌, ◌+◌, ◌<◌, ◌≤◌, ◌^◌, ◌++◌, All, length, sum, IfOk, OnOk};
+ghost use Rattle.std.specs.Prelude.{◌≡◌, ◌<◌, ◌≤◌, ◌++◌, ℕ, length, sum, IfOk, OnOk};
 ghost use Rattle.std.specs.List.{flat_map};
-ghost use Rattle.tda_io.specs.Texts.{IsPlain};
 ghost use Rattle.tda_model.specs.Bounds.{persons_limit};
-ghost use Rattle.tda_model.specs.Spine.{children_of};
+ghost use Rattle.tda_model.specs.Spine.{IsUnit, children_of};
 ghost use Rattle.tda_model.specs.Tables.{Tables};
 ghost use Rattle.tda_model.specs.TablesText.{count_row, tables_header, tables_text};
-ghost use Rattle.tda_schema.specs.Readers.{IsThin};
 ghost use Rattle.tda_spine.specs.Sound.{IsSound};
 ghost use Rattle.tda_tool.specs.Attained.{IsAttained};
-ghost use Rattle.tda_tool.specs.Plain.{national_total, plain_row};
+ghost use Rattle.tda_tool.specs.Plain.{national_total, plain_row, IsHome};
 
 use crate::plain;
 use crate::totals::Totals;
@@ -17,6 +15,22 @@ use std::alloc::Global;
 use tda_io::{NoMemory, push_field, push_int};
 use tda_schema::Schema;
 use tda_spine::Spine;
+
+// The first possible cell of the first kind.
+fn home_cell(schema: &Schema) -> u32
+    ensures home { IsHome schema.now result }
+    ensures earliest { (j : ℕ) → j < result → IsHome schema.now j → ⊥ }
+{
+    for cell in 0..schema.cells() {
+        if schema.possible(cell) && schema.kind_of(cell) == 0 {
+            return cell;
+        }
+    }
+    // Each kind has a possible cell.
+    let kinds = schema.kinds();
+    prove!(kinds > 0);
+    unreachable!()
+}
 
 // Appends the header.
 fn push_header(out: &mut Vec<u8>) -> Result<(), NoMemory>
@@ -28,14 +42,14 @@ fn push_header(out: &mut Vec<u8>) -> Result<(), NoMemory>
 }
 
 // Appends the row of a count, and nothing for a count of 0.
-fn push_count(out: &mut Vec<u8>, code: &[u8], cell: u32, count: u64) -> Result<(), NoMemory>
-    requires { IsPlain code.now }
+fn push_count(out: &mut Vec<u8>, code: &str, cell: u32, count: u64) -> Result<(), NoMemory>
     ensures { OnOk result (out.new.items ≡ out.old.items ++ count_row code.now cell count) }
 {
     if count == 0 {
         return Ok(());
     }
-    push_field(out, code, false)?;
+    out.extend_from_slice(code.as_bytes())?;
+    out.push(b',')?;
     push_int(out, i128::from(cell))?;
     out.push(b',')?;
     push_int(out, i128::from(count))?;
@@ -49,16 +63,17 @@ fn push_unit(
     spine: &Spine,
     totals: &Totals,
     national: u64,
+    home: u32,
     unit: u32,
 ) -> Result<(), NoMemory>
     requires sound { IsSound spine.now }
     requires sized { length totals.now ≡ length spine.now.units }
     requires national { national ≡ national_total spine.now totals.now }
-    requires unit { unit < length spine.now.units }
-    ensures { OnOk result (out.new.items ≡ out.old.items ++ plain_row spine.now totals.now unit) }
+    requires unit { IsUnit spine.now unit }
+    ensures { OnOk result (out.new.items ≡ out.old.items ++ plain_row spine.now totals.now home unit) }
 {
     let count = plain::plain_count(spine, totals, national, unit);
-    push_count(out, spine.code(unit).as_bytes(), 0, count)
+    push_count(out, spine.code(unit), home, count)
 }
 
 // Appends the rows of a unit's children.
@@ -67,40 +82,41 @@ fn push_children(
     spine: &Spine,
     totals: &Totals,
     national: u64,
+    home: u32,
     parent: u32,
 ) -> Result<(), NoMemory>
     requires sound { IsSound spine.now }
     requires sized { length totals.now ≡ length spine.now.units }
     requires national { national ≡ national_total spine.now totals.now }
-    requires parent { parent < length spine.now.units }
-    ensures { OnOk result (out.new.items ≡ out.old.items ++ flat_map (plain_row spine.now totals.now) (children_of spine.now parent)) }
+    requires parent { IsUnit spine.now parent }
+    ensures { OnOk result (out.new.items ≡ out.old.items ++ flat_map (plain_row spine.now totals.now home) (children_of spine.now parent)) }
 {
     for child in spine.children(parent) {
-        push_unit(out, spine, totals, national, *child)?;
+        push_unit(out, spine, totals, national, home, *child)?;
     }
     Ok(())
 }
 
 /// The file of the plain tables: a row for each count that isn't 0, the nation's first and then those of the children
-/// of each unit in fit order.
+/// of each unit in fit order. All persons are in the first possible cell of the first kind.
 pub(crate) fn tables_text(
     alloc: Global,
     schema: &Schema,
     spine: &Spine,
     totals: &Totals,
 ) -> Result<Vec<u8>, NoMemory>
-    requires thin { IsThin schema.now }
-    requires sound { IsSound spine.now }
     requires sized { length totals.now ≡ length spine.now.units }
     requires few { sum totals.now ≤ persons_limit }
     ensures { IfOk result (λ v. (x : Tables) × IsAttained (record { schema = schema.now; spine = spine.now; totals = totals.now }) x × (v.items ≡ tables_text schema.now spine.now x)) }
 {
+    let home = home_cell(schema);
+    let nation = spine.nation();
     let national = plain::national_total(spine, totals);
     let mut out = Vec::new(alloc);
     push_header(&mut out)?;
-    push_unit(&mut out, spine, totals, national, spine.nation())?;
+    push_unit(&mut out, spine, totals, national, home, nation)?;
     for parent in spine.parents() {
-        push_children(&mut out, spine, totals, national, *parent)?;
+        push_children(&mut out, spine, totals, national, home, *parent)?;
     }
     Ok(out)
 }

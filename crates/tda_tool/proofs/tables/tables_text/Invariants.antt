@@ -7,5 +7,5 @@ use Rattle.tda_tool.proofs.tables.tables_text.Given as goal
 
 abbrev pub invariant-loop-parent : goal.invariant-loop-parent
 invariant-loop-parent l =
-    l.out.items ≡ (tables_header ++ plain_row l.spine l.totals (nation_of l.spine))
-    ++ flat_map (λ p. flat_map (plain_row l.spine l.totals) (children_of l.spine p)) (take l.parent-index l.parent-items)
+    l.out.items ≡ (tables_header ++ plain_row l.spine l.totals l.home (nation_of l.spine))
+    ++ flat_map (λ p. flat_map (plain_row l.spine l.totals l.home) (children_of l.spine p)) (take l.parent-index l.parent-items)
