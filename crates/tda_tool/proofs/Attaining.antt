@@ -1,7 +1,8 @@
 -- Tables that lie within their bounds below the nation, and add up at each parent, are tables that each unit can have.
-use Rattle.std.proofs.Common.{◌≡◌, ℕ, ◌+◌, ◌-◌, ◌<◌, ◌≤◌, Bool, true, false, ◌==◌, Some, None, refl, sym, ap, ◌∙◌, subst, inl, inr, arith, eq-eqb, length}
+use Rattle.std.proofs.Common.{◌≡◌, ℕ, ◌+◌, ◌-◌, ◌<◌, ◌≤◌, Bool, true, false, ◌==◌, Some, None, refl, sym, ap, ◌∙◌, subst, inl, inr, arith, get_or, List, eq-eqb, length}
 use Rattle.std.proofs.lemmas.Bool.{cases_eq}
-use Rattle.std.specs.List.{sum_by}
+use Rattle.std.proofs.lemmas.List.Elements.{All-from_recursion}
+use Rattle.std.specs.List.{All, sum_by}
 use Rattle.tda_model.specs.Schema.{Schema}
 use Rattle.tda_model.specs.Cells.{cell_count}
 use Rattle.tda_model.specs.Spine.{Spine, level_of, parent_of, is_child, children_of, blocks_of, IsUnit, HasParent, IsTree}
@@ -20,6 +21,16 @@ module _ (sp : Spine) (nation : ℕ) (t : IsTree sp nation) where
   pub each_child : (P : ℕ → Type 0) (p : ℕ) → ((c : ℕ) → IsUnit sp c → HasParent sp c p → P c) → Each P (children_of sp p)
   each_child P p h = each_filter P (is_child sp p) _ (each_range _ 0 (length sp.units) (λ c low_c high_c is.
       h c (omega arith) (child_tells sp nation t p c (omega arith) is)))
+
+  pub record IsBelow (u : ℕ) : Type 0 where
+    pub here : IsUnit sp u
+    pub below : 1 ≤ level_of sp u
+
+  -- each child of a unit stands below the nation
+  pub child_below : (p : ℕ) (cs : List ℕ) (k : ℕ) → cs ≡ children_of sp p → k < length cs → IsBelow (get_or cs k 0)
+  child_below p cs k e l =
+      let all = each_child IsBelow p (λ c here h. record { here = here; below = omega (arith, h.above) }) in
+      subst (All IsBelow) (sym e) (All-from_recursion IsBelow (children_of sp p) all) k 0 l
 
   module _ (s : Schema) (known : Published) (m : MostHolds known) (x : Tables)
       (bounds : (u : ℕ) → IsUnit sp u → 1 ≤ level_of sp u → InBounds s sp known u (x u)) (adds : AddUp s (children_of sp nation) x (x nation)) where

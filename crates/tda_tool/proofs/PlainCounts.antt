@@ -79,16 +79,7 @@ module _ (sp : Spine) (nation : ℕ) (t : IsTree sp nation) (totals : List ℕ) 
   pub named_parent : (u p : ℕ) → IsUnit sp u → parent_of sp u ≡ Some p → HasParent sp u p
   named_parent u p here e = child_tells sp nation t p u here (child_named sp u p e)
 
-  -- the count of a unit by its parent
-  pub count_alone : (u : ℕ) → IsUnit sp u → parent_of sp u ≡ None → plain_count sp totals u ≡ national_total sp totals
-  count_alone u here e = elim (cases_eq (level_of sp u) 0) [
-    | inl is ↦ ap (λ m. plain_at sp totals m u) is
-    | inr ne ↦ let p = t.parent u here (omega arith) in let named = p.1.named in absurd cc
-  ]
-
-  pub count_state : (u : ℕ) → level_of sp u ≡ 1 → plain_count sp totals u ≡ slice_index totals u
-  count_state u e = ap (λ m. plain_at sp totals m u) e
-
+  -- the count of a unit by its parent's
   pub count_below : (u p : ℕ) → IsUnit sp u → parent_of sp u ≡ Some p → (level_of sp u ≡ 1 → ⊥)
       → plain_count sp totals u ≡ cond (is_first (children_of sp p) u) (plain_count sp totals p) 0
   count_below u p here e ne = below (level_of sp p) refl
@@ -115,6 +106,3 @@ pub states_within : (sp : Spine) (n : ℕ) → n ≡ length sp.units → All (λ
 states_within sp n sized =
     All-from_recursion (λ u. u < n) (units_at sp 1) (each_filter (λ u. u < n) (is_at sp 1) _ (each_range _ 0 (length sp.units) (λ u low high is. omega arith)))
 
-pub children_within : (sp : Spine) (p : ℕ) → All (λ u. u < length sp.units) (children_of sp p)
-children_within sp p =
-    All-from_recursion (λ u. u < length sp.units) (children_of sp p) (each_filter (λ u. u < length sp.units) (is_child sp p) _ (each_range _ 0 (length sp.units) (λ u low high is. omega arith)))

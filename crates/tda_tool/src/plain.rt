@@ -1,6 +1,7 @@
 // How many persons each unit has in the plain tables.
 ghost use Rattle.std.specs.Prelude.{◌≡◌, ◌<◌, ◌≤◌, ◌^◌, All, length, slice_index, sum, sum_by};
 ghost use Rattle.tda_model.specs.Bounds.{persons_limit};
+ghost use Rattle.tda_model.specs.Spine.{IsUnit, level_of};
 ghost use Rattle.tda_spine.specs.Sound.{IsSound};
 ghost use Rattle.tda_tool.specs.Plain as spec;
 
@@ -40,24 +41,23 @@ fn is_first(units: &[u32], unit: u32) -> bool
     }
 }
 
-/// The number of persons of a unit: the nation has those of all states, a state its total, and below the states the
-/// first child of a unit has all that the unit has. A walk up from the unit finds it, at most 7 steps long.
-pub(crate) fn plain_count(spine: &Spine, totals: &Totals, national: u64, unit: u32) -> u64
+/// The number of persons of a unit below the nation: a state has its total, and below the states the first child of a
+/// unit has all that the unit has. A walk up from the unit finds it, of at most 5 steps.
+pub(crate) fn plain_count(spine: &Spine, totals: &Totals, unit: u32) -> u64
     requires sound { IsSound spine.now }
     requires sized { length totals.now ≡ length spine.now.units }
-    requires national { national ≡ spec.national_total spine.now totals.now }
-    requires unit { unit < length spine.now.units }
+    requires unit { IsUnit spine.now unit }
+    requires below { 1 ≤ level_of spine.now unit }
     ensures { result ≡ spec.plain_count spine.now totals.now unit }
 {
-    let Some(parent) = spine.parent(unit) else {
-        return national;
-    };
-    if spine.level(unit) == 1 {
-        return totals.get(unit);
-    }
-    if is_first(spine.children(parent), unit) {
-        plain_count(spine, totals, national, parent)
-    } else {
-        0
+    match spine.parent(unit) {
+        Some(parent) if spine.level(unit) > 1 => {
+            if is_first(spine.children(parent), unit) {
+                plain_count(spine, totals, parent)
+            } else {
+                0
+            }
+        }
+        _ => totals.get(unit),
     }
 }

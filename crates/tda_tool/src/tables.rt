@@ -2,12 +2,12 @@
 ghost use Rattle.std.specs.Prelude.{◌≡◌, ◌<◌, ◌≤◌, ◌++◌, ℕ, length, sum, IfOk, OnOk};
 ghost use Rattle.std.specs.List.{flat_map};
 ghost use Rattle.tda_model.specs.Bounds.{persons_limit};
-ghost use Rattle.tda_model.specs.Spine.{IsUnit, children_of};
+ghost use Rattle.tda_model.specs.Spine.{IsUnit, level_of, children_of};
 ghost use Rattle.tda_model.specs.Tables.{Tables};
 ghost use Rattle.tda_model.specs.TablesText.{count_row, tables_header, tables_text};
 ghost use Rattle.tda_spine.specs.Sound.{IsSound};
 ghost use Rattle.tda_tool.specs.Attained.{IsAttained};
-ghost use Rattle.tda_tool.specs.Plain.{national_total, plain_row, IsHome};
+ghost use Rattle.tda_tool.specs.Plain.{plain_row, IsHome};
 
 use crate::plain;
 use crate::totals::Totals;
@@ -57,22 +57,21 @@ fn push_count(out: &mut Vec<u8>, code: &str, cell: u32, count: u64) -> Result<()
     Ok(())
 }
 
-// Appends the row of a unit.
+// Appends the row of a unit below the nation.
 fn push_unit(
     out: &mut Vec<u8>,
     spine: &Spine,
     totals: &Totals,
-    national: u64,
     home: u32,
     unit: u32,
 ) -> Result<(), NoMemory>
     requires sound { IsSound spine.now }
     requires sized { length totals.now ≡ length spine.now.units }
-    requires national { national ≡ national_total spine.now totals.now }
     requires unit { IsUnit spine.now unit }
+    requires below { 1 ≤ level_of spine.now unit }
     ensures { OnOk result (out.new.items ≡ out.old.items ++ plain_row spine.now totals.now home unit) }
 {
-    let count = plain::plain_count(spine, totals, national, unit);
+    let count = plain::plain_count(spine, totals, unit);
     push_count(out, spine.code(unit), home, count)
 }
 
@@ -81,18 +80,16 @@ fn push_children(
     out: &mut Vec<u8>,
     spine: &Spine,
     totals: &Totals,
-    national: u64,
     home: u32,
     parent: u32,
 ) -> Result<(), NoMemory>
     requires sound { IsSound spine.now }
     requires sized { length totals.now ≡ length spine.now.units }
-    requires national { national ≡ national_total spine.now totals.now }
     requires parent { IsUnit spine.now parent }
     ensures { OnOk result (out.new.items ≡ out.old.items ++ flat_map (plain_row spine.now totals.now home) (children_of spine.now parent)) }
 {
     for child in spine.children(parent) {
-        push_unit(out, spine, totals, national, home, *child)?;
+        push_unit(out, spine, totals, home, *child)?;
     }
     Ok(())
 }
@@ -114,9 +111,9 @@ pub(crate) fn tables_text(
     let national = plain::national_total(spine, totals);
     let mut out = Vec::new(alloc);
     push_header(&mut out)?;
-    push_unit(&mut out, spine, totals, national, home, nation)?;
+    push_count(&mut out, spine.code(nation), home, national)?;
     for parent in spine.parents() {
-        push_children(&mut out, spine, totals, national, home, *parent)?;
+        push_children(&mut out, spine, totals, home, *parent)?;
     }
     Ok(out)
 }

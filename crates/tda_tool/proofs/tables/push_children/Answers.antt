@@ -1,8 +1,13 @@
-use Rattle.std.proofs.Common.{◌<◌, All, length, subst, sym}
-use Rattle.tda_tool.proofs.PlainCounts.{children_within}
+use Rattle.tda_model.specs.Spine.{nation_of}
+use Rattle.tda_tool.proofs.Attaining.{child_below}
 use Rattle.tda_tool.proofs.tables.push_children.Goals as goal
 
 pub push_unit-requires-clause-unit : goal.push_unit-requires-clause-unit
 push_unit-requires-clause-unit c =
-    subst (All (λ u. u < length c.args.spine.now.units)) (sym c.children-child-items.ensures) (children_within c.args.spine.now c.args.parent)
-    c.loop-child.child-index 0 c.loop-child-test.true
+    (child_below c.args.spine.now (nation_of c.args.spine.now) c.requires.sound.tree c.args.parent c.children-child-items.result.now c.loop-child.child-index
+    c.children-child-items.ensures c.loop-child-test.true).here
+
+pub push_unit-requires-clause-below : goal.push_unit-requires-clause-below
+push_unit-requires-clause-below c =
+    (child_below c.args.spine.now (nation_of c.args.spine.now) c.requires.sound.tree c.args.parent c.children-child-items.result.now c.loop-child.child-index
+    c.children-child-items.ensures c.loop-child-test.true).below
