@@ -1,0 +1,5 @@
+pub mod Words
+pub mod Totals
+pub mod Attained
+pub mod Due
+pub mod Outcome
