@@ -1,0 +1,8 @@
+//! The program below its real files: it judges its words, reads, publishes and answers a status.
+#![tactic(auto)]
+
+mod tables;
+mod totals;
+mod words;
+
+pub use words::{Command, judge, value_of};
