@@ -1,1 +1,4 @@
 pub mod Values
+pub mod Reading
+pub mod Judged
+pub mod Files

@@ -48,13 +48,16 @@ pub record AsksPrefix (names : List (List ℕ)) (old new : Option Shelf) : Type 
   pub within : count ≤ length names
   pub asked : new ≡ option_map (asks_all (take count names)) old
 
+-- `begin` was asked for these names, in this order
+abbrev pub AsksBegin : List (List ℕ) → Option Tray → Option Tray → Type 0
+AsksBegin names old new = option_map (λ t. t.asked) new ≡ option_map (λ t. t.asked ++ names) old
+
 -- `begin` was asked for the first ones of these names, or for them and then for the report
 pub record BeginsPrefix (names : List (List ℕ)) (old new : Option Tray) : Type 0 where
   pub count : ℕ
   pub within : count ≤ length names
   pub report : Bool
-  pub asked : option_map (λ t. t.asked) new
-      ≡ option_map (λ t. t.asked ++ take count names ++ (if report then dash ∷ [] else [])) old
+  pub asked : AsksBegin (take count names ++ (if report then dash ∷ [] else [])) old new
 
 -- The read of one of the command's files failed: the files before it were accepted, the names asked for
 -- are those up to it, and nothing but the report of it was begun.

@@ -1,6 +1,10 @@
 //! The program below its real files: it judges its words, reads, publishes and answers a status.
 #![tactic(auto)]
 
+mod answer;
+mod inputs;
+mod output;
+mod prepare;
 mod tables;
 mod totals;
 mod words;
