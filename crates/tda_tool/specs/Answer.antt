@@ -1,5 +1,5 @@
 -- What an answer says, which files it leaves, and when it is due.
-use Rattle.std.specs.Prelude.{◌≡◌, ◌⊎◌, ◌<◌, ◌≤◌, ℕ, ◌+◌, codes, List, [], ◌∷◌, ◌++◌, take, Option, Some, None, IfSome, option_map, slice_index_or, Result, Ok, Err}
+use Rattle.std.specs.Prelude.{◌≡◌, ◌<◌, ◌≤◌, ℕ, ◌+◌, codes, List, [], ◌∷◌, ◌++◌, take, Option, Some, None, IfSome, option_map, slice_index_or, Result, Ok, Err}
 use Rattle.std.specs.Fmt.{decimal}
 use Rattle.tda_io.specs.Outside.{Shelf, Tray, Written}
 use Rattle.tda_io.specs.declared.outside.NoMemory.{NoMemory}
@@ -10,8 +10,8 @@ use Rattle.tda_model.specs.TablesText.{tables_text}
 use Rattle.tda_model.specs.Spine.{fit_count}
 use Rattle.tda_tool.specs.Attained.{Inputs, IsAttained}
 use Rattle.tda_tool.specs.Words.{command_of, reads_of, writes_of, dash}
-use Rattle.tda_tool.specs.Due.{Ending, line, words_ending, refused_ending, read_ending, inputs_from, given_by, failing_at, due}
-use Rattle.tda_tool.specs.Outcome.{whole, asks_all, AsksPrefix, BeginsPrefix}
+use Rattle.tda_tool.specs.Due.{Ending, line, words_ending, refused_ending, read_ending, inputs_from, given_by, failing_at}
+use Rattle.tda_tool.specs.Outcome.{whole, asks_all, AsksPrefix}
 use Rattle.tda_tool.specs.Reading.{name_of, number_of}
 use Rattle.tda_tool.specs.declared.words.Command.TheVariants.{Fit}
 use Rattle.tda_tool.specs.declared.answer.Answer.{Answer}
@@ -99,11 +99,6 @@ CountsPrepared before now (Err e) = now ≡ before
 abbrev pub CountsRun : ℕ → ℕ → Result Answer OutFault → Type 0
 CountsRun before now (Ok a) = CountsAnswer before now a
 CountsRun before now (Err e) = before ≤ now
-
--- outputs are begun only where the command's tables are ready
-abbrev pub BeginsWhenDue : List (List ℕ) → Option Shelf → ℕ → ℕ → Option Tray → Option Tray → Type 0
-BeginsWhenDue words shelf before now old new =
-    BeginsPrefix [] old new ⊎ ((now ≡ before) × IfSome shelf (λ s. (due words s.holds).status ≡ 0))
 
 -- the status of a run
 abbrev pub status_of : Result Answer OutFault → ℕ

@@ -5,8 +5,11 @@ mod answer;
 mod inputs;
 mod output;
 mod prepare;
+mod publish;
 mod tables;
+mod top;
 mod totals;
 mod words;
 
+pub use top::tool;
 pub use words::{Command, judge, value_of};
