@@ -5,10 +5,11 @@ use Rattle.tda_io.specs.Outside.{Shelf, Tray, CountsOut}
 use Rattle.tda_io.specs.declared.outside.OutFault.{OutFault}
 use Rattle.tda_io.specs.declared.outside.OutFault.TheVariants as fault_out
 use Rattle.tda_tool.specs.Words.{command_of, reads_of, writes_of, fit_form, dash}
-use Rattle.tda_tool.specs.Due.{Ending, due, words_ending, refused_ending, read_ending, fit_ending, inputs_from, given_by}
+use Rattle.tda_tool.specs.Due.{Ending, due, fit_due, words_ending, refused_ending, read_ending, fit_ending, inputs_from, given_by}
 use Rattle.tda_tool.specs.Outcome.{is_status, IsSettled, Leaves, LeavesReport, LeavesAll, FitWrote, FileRefused, ReadFailed, AsksPrefix, asks_all, BeginsPrefix, BeginsWhenDue, whole, with_all}
 use Rattle.tda_tool.specs.Reading.{name_of, number_of}
 use Rattle.tda_tool.specs.Answer.{ending_of, SuitsWords, IsDue, IsFitted, Asks, files_of, outputs_of, targets_of, tables_path, CountsAnswer, CountsRun, status_of}
+use Rattle.tda_tool.specs.declared.words.Command.{Command}
 use Rattle.tda_tool.specs.declared.words.Command.TheVariants.{Fit}
 use Rattle.tda_tool.specs.declared.inputs.File.{File}
 use Rattle.tda_tool.specs.declared.inputs.File.TheVariants as file
@@ -23,34 +24,30 @@ use Rattle.tda_tool.proofs.Reading.{file_within}
 abbrev Run : Type 0
 Run = Result Answer OutFault
 
-pub statuses : (r : Run) → IsTrue (is_status (status_of r))
-statuses (Ok answer.Words) = refl
-statuses (Ok (answer.Refused f)) = refl
-statuses (Ok (answer.Read f)) = refl
-statuses (Ok (answer.Fit r)) = refl
-statuses (Err fault_out.Failed) = refl
-statuses (Err fault_out.NoMemory) = refl
+abbrev due_by : List (List ℕ) → (List ℕ → Option (List ℕ)) → Option Command → Ending
+due_by words holds None = words_ending
+due_by words holds (Some Fit) = fit_due (inputs_from (given_by words holds))
 
 -- what is due
 due_words : (words : List (List ℕ)) (holds : List ℕ → Option (List ℕ)) → command_of words ≡ None → due words holds ≡ words_ending
-due_words words holds is = rw is refl
+due_words words holds is = ap (due_by words holds) is
 
 due_refused : (words : List (List ℕ)) (holds : List ℕ → Option (List ℕ)) (f : File) → command_of words ≡ Some Fit
     → inputs_from (given_by words holds) ≡ Err (refused_ending (name_of f)) → due words holds ≡ refused_ending (name_of f)
-due_refused words holds f is stops = rw (is, stops) refl
+due_refused words holds f is stops = ap (due_by words holds) is ∙ ap fit_due stops
 
 due_fit : (words : List (List ℕ)) (holds : List ℕ → Option (List ℕ)) (r : Fitted) → command_of words ≡ Some Fit → (fitted : IsFitted words holds r) → due words holds ≡ fit_ending fitted.inputs.spine
-due_fit words holds r is fitted = rw (is, fitted.accepted) refl
+due_fit words holds r is fitted = ap (due_by words holds) is ∙ ap fit_due fitted.accepted
 
 pub settled : (words : List (List ℕ)) (shelf : Option Shelf) (r : Run) → IfOk r (SuitsWords words) → IfOk r (λ a. IfSome shelf (λ s. IsDue words s.holds a))
     → IsSettled (status_of r) → IfSome shelf (λ s. (due words s.holds).status ≡ status_of r)
-settled words None r suits is settled = tt
-settled words (Some s) (Ok answer.Words) suits is settled = ap (λ e. e.status) (due_words words s.holds suits)
-settled words (Some s) (Ok (answer.Refused f)) suits is settled = ap (λ e. e.status) (due_refused words s.holds f suits is)
-settled words (Some s) (Ok (answer.Read f)) suits is settled = absurd (settled.read refl)
-settled words (Some s) (Ok (answer.Fit r)) suits is settled = ap (λ e. e.status) (due_fit words s.holds r suits is)
-settled words (Some s) (Err fault_out.Failed) suits is settled = absurd (settled.written refl)
-settled words (Some s) (Err fault_out.NoMemory) suits is settled = absurd (settled.remembered refl)
+settled words None r suits is calm = tt
+settled words (Some s) (Ok answer.Words) suits is calm = ap (λ e. e.status) (due_words words s.holds suits)
+settled words (Some s) (Ok (answer.Refused f)) suits is calm = ap (λ e. e.status) (due_refused words s.holds f suits is)
+settled words (Some s) (Ok (answer.Read f)) suits is calm = absurd (calm.read refl)
+settled words (Some s) (Ok (answer.Fit r)) suits is calm = ap (λ e. e.status) (due_fit words s.holds r suits is)
+settled words (Some s) (Err fault_out.Failed) suits is calm = absurd (calm.written refl)
+settled words (Some s) (Err fault_out.NoMemory) suits is calm = absurd (calm.remembered refl)
 
 -- the report that is due stands alone
 report_is : (e d : Ending) (old new : Option Tray) → d ≡ e → LeavesReport e.report old new → LeavesReport d.report old new
@@ -59,13 +56,13 @@ report_is e d old new is left = rw is left
 pub settled_report : (words : List (List ℕ)) (shelf : Option Shelf) (r : Run) (old new : Option Tray) → IfOk r (SuitsWords words) → IfOk r (λ a. IfSome shelf (λ s. IsDue words s.holds a))
     → IfOk r (λ a. Leaves (files_of words a) old new)
     → IsSettled (status_of r) → status_of r ≢ 0 → IfSome shelf (λ s. LeavesReport (due words s.holds).report old new)
-settled_report words None r old new suits is left settled some = tt
-settled_report words (Some s) (Ok answer.Words) old new suits is left settled some = report_is words_ending _ old new (due_words words s.holds suits) left
-settled_report words (Some s) (Ok (answer.Refused f)) old new suits is left settled some = report_is (refused_ending (name_of f)) _ old new (due_refused words s.holds f suits is) left
-settled_report words (Some s) (Ok (answer.Read f)) old new suits is left settled some = absurd (settled.read refl)
-settled_report words (Some s) (Ok (answer.Fit r)) old new suits is left settled some = absurd (some refl)
-settled_report words (Some s) (Err fault_out.Failed) old new suits is left settled some = absurd (settled.written refl)
-settled_report words (Some s) (Err fault_out.NoMemory) old new suits is left settled some = absurd (settled.remembered refl)
+settled_report words None r old new suits is left calm some = tt
+settled_report words (Some s) (Ok answer.Words) old new suits is left calm some = report_is words_ending _ old new (due_words words s.holds suits) left
+settled_report words (Some s) (Ok (answer.Refused f)) old new suits is left calm some = report_is (refused_ending (name_of f)) _ old new (due_refused words s.holds f suits is) left
+settled_report words (Some s) (Ok (answer.Read f)) old new suits is left calm some = absurd (calm.read refl)
+settled_report words (Some s) (Ok (answer.Fit r)) old new suits is left calm some = absurd (some refl)
+settled_report words (Some s) (Err fault_out.Failed) old new suits is left calm some = absurd (calm.written refl)
+settled_report words (Some s) (Err fault_out.NoMemory) old new suits is left calm some = absurd (calm.remembered refl)
 
 -- the tables
 wrote : (words : List (List ℕ)) (holds : List ℕ → Option (List ℕ)) (r : Fitted) (old new : Option Tray) → IsFitted words holds r → Leaves (files_of words (answer.Fit r)) old new → FitWrote words holds old new
@@ -99,31 +96,6 @@ all_written words (Ok (answer.Read f)) old new suits left done = cc done
 all_written words (Ok (answer.Fit r)) old new suits left done = wrote_all words r old new suits left
 all_written words (Err fault_out.Failed) old new suits left done = cc done
 all_written words (Err fault_out.NoMemory) old new suits left done = cc done
-
--- the words
-pub refused_words : (words : List (List ℕ)) (r : Run) → IfOk r (SuitsWords words) → status_of r ≡ 2 → command_of words ≡ None
-refused_words words (Ok answer.Words) suits is = suits
-refused_words words (Ok (answer.Refused f)) suits is = cc is
-refused_words words (Ok (answer.Read f)) suits is = cc is
-refused_words words (Ok (answer.Fit r)) suits is = cc is
-refused_words words (Err fault_out.Failed) suits is = cc is
-refused_words words (Err fault_out.NoMemory) suits is = cc is
-
-pub no_command : (words : List (List ℕ)) (r : Run) → IfOk r (SuitsWords words) → command_of words ≡ None → (status_of r ≡ 2) ⊎ (status_of r ≡ 5) ⊎ (status_of r ≡ 8)
-no_command words (Ok answer.Words) suits is = search refl
-no_command words (Ok (answer.Refused f)) suits is = cc
-no_command words (Ok (answer.Read f)) suits is = cc
-no_command words (Ok (answer.Fit r)) suits is = cc
-no_command words (Err fault_out.Failed) suits is = search refl
-no_command words (Err fault_out.NoMemory) suits is = search refl
-
-pub words_report : (words : List (List ℕ)) (r : Run) (old new : Option Tray) → IfOk r (λ a. Leaves (files_of words a) old new) → status_of r ≡ 2 → LeavesReport words_ending.report old new
-words_report words (Ok answer.Words) old new left is = left
-words_report words (Ok (answer.Refused f)) old new left is = cc is
-words_report words (Ok (answer.Read f)) old new left is = cc is
-words_report words (Ok (answer.Fit r)) old new left is = cc is
-words_report words (Err fault_out.Failed) old new left is = cc is
-words_report words (Err fault_out.NoMemory) old new left is = cc is
 
 -- the name of a file by its place
 name_at : (f : File) → name_of f ≡ slice_index_or fit_form.reads (number_of f) []
@@ -170,56 +142,6 @@ failed_file words (Ok (answer.Read f)) shelf shelf_new old new suits is asked le
 failed_file words (Ok (answer.Fit r)) shelf shelf_new old new suits is asked left four = cc four
 failed_file words (Err fault_out.Failed) shelf shelf_new old new suits is asked left four = cc four
 failed_file words (Err fault_out.NoMemory) shelf shelf_new old new suits is asked left four = cc four
-
--- which object failed
-no_rise : (before now : ℕ) → now ≡ before → before < now → ⊥
-no_rise before now same rise = omega arith
-
-pub write_failed : (r : Run) (before now : ℕ) → CountsOut r before now → (status_of r ≡ 5) ↔ (before < now)
-write_failed (Ok answer.Words) before now count = (λ is. cc is, λ rise. absurd (no_rise before now count rise))
-write_failed (Ok (answer.Refused f)) before now count = (λ is. cc is, λ rise. absurd (no_rise before now count rise))
-write_failed (Ok (answer.Read f)) before now count = (λ is. cc is, λ rise. absurd (no_rise before now count rise))
-write_failed (Ok (answer.Fit r)) before now count = (λ is. cc is, λ rise. absurd (no_rise before now count rise))
-write_failed (Err fault_out.Failed) before now count = (λ is. count, λ rise. refl)
-write_failed (Err fault_out.NoMemory) before now count = (λ is. cc is, λ rise. absurd (no_rise before now count rise))
-
-pub no_write_failed : (r : Run) (before now : ℕ) → CountsOut r before now → status_of r ≢ 5 → now ≡ before
-no_write_failed (Ok a) before now count other = count
-no_write_failed (Err fault_out.Failed) before now count other = absurd (other refl)
-no_write_failed (Err fault_out.NoMemory) before now count other = count
-
-pub read_failed : (r : Run) (before now : ℕ) → CountsRun before now r → status_of r ≡ 4 → before < now
-read_failed (Ok answer.Words) before now count is = cc is
-read_failed (Ok (answer.Refused f)) before now count is = cc is
-read_failed (Ok (answer.Read f)) before now count is = count
-read_failed (Ok (answer.Fit r)) before now count is = cc is
-read_failed (Err fault_out.Failed) before now count is = cc is
-read_failed (Err fault_out.NoMemory) before now count is = cc is
-
-pub after_failed_read : (r : Run) (before now : ℕ) → CountsRun before now r → before < now → (status_of r ≡ 4) ⊎ (status_of r ≡ 5) ⊎ (status_of r ≡ 8)
-after_failed_read (Ok answer.Words) before now count rise = absurd (no_rise before now count rise)
-after_failed_read (Ok (answer.Refused f)) before now count rise = absurd (no_rise before now count rise)
-after_failed_read (Ok (answer.Read f)) before now count rise = search refl
-after_failed_read (Ok (answer.Fit r)) before now count rise = absurd (no_rise before now count rise)
-after_failed_read (Err fault_out.Failed) before now count rise = search refl
-after_failed_read (Err fault_out.NoMemory) before now count rise = search refl
-
-pub no_read_failed : (r : Run) (before now : ℕ) → CountsRun before now r → IsSettled (status_of r) → now ≡ before
-no_read_failed (Ok answer.Words) before now count settled = count
-no_read_failed (Ok (answer.Refused f)) before now count settled = count
-no_read_failed (Ok (answer.Read f)) before now count settled = absurd (settled.read refl)
-no_read_failed (Ok (answer.Fit r)) before now count settled = count
-no_read_failed (Err fault_out.Failed) before now count settled = absurd (settled.written refl)
-no_read_failed (Err fault_out.NoMemory) before now count settled = absurd (settled.remembered refl)
-
--- what is asked for
-pub all_asked : (words : List (List ℕ)) (r : Run) (shelf shelf_new : Option Shelf) → IfOk r (Asks words shelf shelf_new) → status_of r ≡ 0 → shelf_new ≡ option_map (asks_all (reads_of words)) shelf
-all_asked words (Ok answer.Words) shelf shelf_new asked is = cc is
-all_asked words (Ok (answer.Refused f)) shelf shelf_new asked is = cc is
-all_asked words (Ok (answer.Read f)) shelf shelf_new asked is = cc is
-all_asked words (Ok (answer.Fit r)) shelf shelf_new asked is = asked
-all_asked words (Err fault_out.Failed) shelf shelf_new asked is = cc is
-all_asked words (Err fault_out.NoMemory) shelf shelf_new asked is = cc is
 
 -- an answer's outputs are the first ones of the command
 pub begun_by : (words : List (List ℕ)) (a : Answer) (old new : Option Tray) → SuitsWords words a → BeginsPrefix (targets_of words a) old new → BeginsPrefix (writes_of words) old new
