@@ -1,5 +1,5 @@
 -- Whether a row is the header.
-use Rattle.std.proofs.Common.{◌≡◌, ◌≢◌, ℕ, Bool, true, false, ◌&&◌, not, ◌+◌, ◌<◌, List, [], ◌∷◌, length, get_or, drop, map, Bor, refl, sym, ap, ◌∙◌, arith, cond}
+use Rattle.std.proofs.Common.{◌≡◌, ◌≢◌, ℕ, Bool, true, false, ◌&&◌, not, ◌+◌, ◌<◌, List, [], ◌∷◌, length, get_or, drop, map, Bor, refl, sym, ap, ◌∙◌, arith}
 use Rattle.std.proofs.lemmas.List.{drop_more, length-map}
 use Rattle.std.proofs.Math.ListN.{get_or-map}
 use Rattle.std.specs.Str.{bytes_eq}

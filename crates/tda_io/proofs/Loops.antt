@@ -1,5 +1,5 @@
 -- The loop of a reader over the rows after the header, whatever it judges.
-use Rattle.std.proofs.Common.{◌≡◌, ℕ, ◌+◌, ◌<◌, List, [], ◌∷◌, ◌++◌, length, get_or, take, drop, Option, Some, None, refl, sym, ap, ◌∙◌, arith}
+use Rattle.std.proofs.Common.{◌≡◌, ℕ, ◌+◌, ◌<◌, List, [], ◌∷◌, length, get_or, take, drop, Option, Some, None}
 use Rattle.std.proofs.lemmas.List.{drop_more, take_more}
 use Rattle.tda_io.specs.Csv.{Row, first_fault, or_else}
 

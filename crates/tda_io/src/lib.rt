@@ -13,7 +13,7 @@ pub use dir::{DirInbox, DirOutbox};
 pub use header::has_header;
 pub use mem_inbox::{MemFile, MemInbox};
 pub use mem_outbox::MemOutbox;
-pub use outside::{InFault, Inbox, NoMemory, OutFault, Outbox};
+pub use outside::{InFault, Inbox, NoMemory, OutFault, Outbox, PERSONS};
 pub use rows::{RowFault, Rows, read_rows};
 pub use texts::{is_name, push_field, push_int, read_int};
 

@@ -1,6 +1,5 @@
-use Rattle.std.proofs.Common.{◌≡◌, ◌<◌, ◌∙◌, sym, ap, refl, length, map, arith, []}
+use Rattle.std.proofs.Common.{◌∙◌, sym, refl, arith, []}
 use Rattle.std.proofs.lemmas.List.{length-map}
-use Rattle.tda_io.specs.Rows.{row_width}
 use Rattle.tda_io.specs.Csv.{has_header}
 use Rattle.tda_io.proofs.Headers.{no_header, other_header, texts_of, goes_on, stops}
 use Rattle.tda_io.proofs.header.has_header.Goals as goal
@@ -9,9 +8,9 @@ use Rattle.tda_io.proofs.header.has_header.Goals.{then-len-eq0-via-then-len-eq0,
 pub returns-then-len-eq0-clause-header : goal.returns-then-len-eq0-clause-header
 returns-then-len-eq0-clause-header c =
     elim c.then-len-eq0.branch [
-      then-len-eq0-via-then-len-eq0 w ↦ no_header (texts_of c.args.names.now) c.args.rows.now (omega (arith, c.len.ensures, w.if-len-eq0.true))
-    | then-len-eq0-via-else-len-eq0+then-width-names w ↦
-        other_header (texts_of c.args.names.now) c.args.rows.now (λ same. w.if-width-names.true (w.width.ensures ∙ same ∙ (length-map c.args.names.now (λ n. n.now))))
+      | then-len-eq0-via-then-len-eq0 w ↦ no_header (texts_of c.args.names.now) c.args.rows.now (omega (arith, c.len.ensures, w.if-len-eq0.true))
+      | then-len-eq0-via-else-len-eq0+then-width-names w ↦
+          other_header (texts_of c.args.names.now) c.args.rows.now (λ same. w.if-width-names.true (w.width.ensures ∙ same ∙ (length-map c.args.names.now (λ n. n.now))))
     ]
 
 pub returns-then-ne-clause-header : goal.returns-then-ne-clause-header
