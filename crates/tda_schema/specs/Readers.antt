@@ -1,0 +1,41 @@
+-- What the readers of a schema give, and what each schema keeps.
+use Rattle.std.specs.Prelude.{◌≡◌, ℕ, ◌≤◌, List, [], ◌∷◌, length, map, All, Some, None, slice_get}
+use Rattle.tda_model.specs.Schema.{Attribute, Level, Schema}
+use Rattle.tda_model.specs.Cells.{cell_count}
+
+-- the values of an attribute, by its number
+abbrev pub values_of : Schema → ℕ → List (List ℕ)
+values_of s a = elim (slice_get s.attributes a) [ Some x ↦ x.values | None ↦ [] ]
+
+pub record IsWithinLimits (s : Schema) : Type 0 where
+  pub some_attribute : 1 ≤ length s.attributes
+  pub attributes : length s.attributes ≤ 8
+  pub some_value : All (λ a. 1 ≤ length a.values) s.attributes
+  pub values : All (λ a. length a.values ≤ 128) s.attributes
+  pub some_cell : 1 ≤ cell_count s
+  pub cells : cell_count s ≤ 4096
+  pub some_levels : 2 ≤ length s.levels
+  pub levels : length s.levels ≤ 7
+
+-- one attribute with one value, and nothing to count or to leave out
+pub record IsThin (s : Schema) : Type 0 where
+  pub values : map (λ a. length a.values) s.attributes ≡ 1 ∷ []
+  pub recodes : s.recodes ≡ []
+  pub zeros : s.zeros ≡ []
+  pub queries : All (λ l. l.queries ≡ []) s.levels
+
+-- the schema of these attributes and levels, with nothing to count or to leave out, and the total 1
+abbrev pub plain_schema : List Attribute → List Level → Schema
+plain_schema attributes levels = record {
+  total = record { num = 1; den = 1 };
+  attributes = attributes;
+  recodes = [];
+  zeros = [];
+  levels = levels;
+}
+
+-- what each schema keeps beside its number of cells
+pub record IsKept (s : Schema) (cells : ℕ) : Type 0 where
+  pub limits : IsWithinLimits s
+  pub thin : IsThin s
+  pub counted : cells ≡ cell_count s

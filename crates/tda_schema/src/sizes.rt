@@ -1,0 +1,82 @@
+// How many there are of each in a written schema, and whether it is one that is read yet.
+ghost use Rattle.std.specs.Prelude.{◌≡◌};
+ghost use Rattle.std.specs.List.{list_all};
+ghost use Rattle.tda_schema.specs.Sizes as spec;
+
+use crate::raw::{RawAttribute, RawLevel, RawSchema};
+
+fn is_within(least: usize, most: usize, n: usize) -> bool
+    ensures { result ≡ spec.is_within least most n }
+{
+    least <= n && n <= most
+}
+
+fn attribute_has_size(attribute: &RawAttribute<'_>) -> bool
+    ensures { result ≡ spec.attribute_has_size attribute.now }
+{
+    is_within(1, 128, attribute.values.len())
+}
+
+fn attributes_have_sizes(attributes: &[RawAttribute<'_>]) -> bool
+    ensures { result ≡ list_all spec.attribute_has_size attributes.now }
+{
+    attributes
+        .iter()
+        .all(|attribute| attribute_has_size(attribute))
+}
+
+fn level_has_size(level: &RawLevel<'_>) -> bool
+    ensures { result ≡ spec.level_has_size level.now }
+{
+    is_within(0, 8, level.queries.len())
+}
+
+fn levels_have_sizes(levels: &[RawLevel<'_>]) -> bool
+    ensures { result ≡ list_all spec.level_has_size levels.now }
+{
+    levels.iter().all(|level| level_has_size(level))
+}
+
+/// Whether no number of attributes, values, recodes, zero rows, levels and queries is out of its limits.
+pub(crate) fn has_sizes(schema: &RawSchema<'_>) -> bool
+    ensures { result ≡ spec.has_sizes schema.now }
+{
+    is_within(1, 8, schema.attributes.len())
+        && attributes_have_sizes(&schema.attributes)
+        && is_within(0, 64, schema.recodes.len())
+        && is_within(0, 4096, schema.zeros.len())
+        && is_within(2, 7, schema.levels.len())
+        && levels_have_sizes(&schema.levels)
+}
+
+fn has_one_value(attributes: &[RawAttribute<'_>]) -> bool
+    ensures { result ≡ spec.has_one_value attributes.now }
+{
+    match attributes {
+        [attribute] => attribute.values.len() == 1,
+        _ => false,
+    }
+}
+
+fn counts_nothing(level: &RawLevel<'_>) -> bool
+    ensures { result ≡ spec.counts_nothing level.now }
+{
+    level.queries.len() == 0
+}
+
+fn count_nothing(levels: &[RawLevel<'_>]) -> bool
+    ensures { result ≡ list_all spec.counts_nothing levels.now }
+{
+    levels.iter().all(|level| counts_nothing(level))
+}
+
+/// Whether there is one attribute with one value, no recode, no zero row, no query, and the total `1`.
+pub(crate) fn is_thin(schema: &RawSchema<'_>) -> bool
+    ensures { result ≡ spec.is_thin schema.now }
+{
+    has_one_value(&schema.attributes)
+        && schema.recodes.len() == 0
+        && schema.zeros.len() == 0
+        && count_nothing(&schema.levels)
+        && schema.total == "1"
+}
