@@ -1,0 +1,7 @@
+pub mod Draft
+pub mod Index
+pub mod Indexed
+pub mod Judged
+pub mod Rows
+pub mod Sound
+pub mod Kept

@@ -1,0 +1,20 @@
+//! The spine: the tree of units, read from a file and judged.
+#![tactic(auto)]
+
+mod codes;
+mod draft;
+mod fault;
+mod index;
+mod judge;
+mod lists;
+mod read;
+mod rows;
+mod size;
+mod spine;
+mod tree;
+mod unit;
+mod units;
+
+pub use fault::SpineFault;
+pub use read::read_spine;
+pub use spine::Spine;
