@@ -5,3 +5,11 @@ pub mod Files
 pub mod Begun
 pub mod Paths
 pub mod Ran
+pub mod TotalLemmas
+pub mod Attaining
+pub mod OneCell
+pub mod Parents
+pub mod OneCellAttained
+pub mod OneCellText
+pub mod PlainCounts
+pub mod PlainText

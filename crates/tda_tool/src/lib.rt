@@ -4,6 +4,7 @@
 mod answer;
 mod inputs;
 mod output;
+mod plain;
 mod prepare;
 mod publish;
 mod tables;
