@@ -18,3 +18,6 @@ mod units;
 pub use fault::SpineFault;
 pub use read::read_spine;
 pub use spine::Spine;
+
+#[cfg(test)]
+mod tests;
