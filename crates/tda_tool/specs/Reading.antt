@@ -1,7 +1,9 @@
 -- What reading the files of a command gives, asks for and counts.
-use Rattle.std.specs.Prelude.{◌≡◌, ◌⊎◌, ◌<◌, ℕ, ◌+◌, codes, List, [], length, take, slice_index_or, Option, Some, IfSome, option_map, Result, Ok, Err}
+use Rattle.std.specs.Prelude.{◌≡◌, ◌⊎◌, ◌<◌, ◌≤◌, ℕ, ◌+◌, codes, List, [], length, sum, take, slice_index_or, Option, Some, IfSome, option_map, Result, Ok, Err}
 use Rattle.std.specs.Global.{Vec}
 use Rattle.tda_io.specs.Outside.{Shelf, asks}
+use Rattle.tda_model.specs.Bounds.{persons_limit}
+use Rattle.tda_model.specs.Spine.{Spine}
 use Rattle.tda_tool.specs.Attained.{Inputs}
 use Rattle.tda_tool.specs.Words.{reads_of}
 use Rattle.tda_tool.specs.Due.{file_limit, judged_file, inputs_from, given_by, failing_at, read_ending, refused_ending}
@@ -29,6 +31,11 @@ path_of words f = slice_index_or (reads_of words) (number_of f) []
 
 abbrev pub IsLong : Option (List ℕ) → Type 0
 IsLong held = (bytes : List ℕ) × (held ≡ Some bytes) × (file_limit < length bytes)
+
+-- a number for each unit, and not too many persons
+pub record AreTotals (sp : Spine) (totals : List ℕ) : Type 0 where
+  pub sized : length totals ≡ length sp.units
+  pub few : sum totals ≤ persons_limit
 
 -- the bytes of a file, where it isn't too long
 abbrev pub GivesBytes : List (List ℕ) → File → Option Shelf → Result (Vec ℕ) Stop → Type 0

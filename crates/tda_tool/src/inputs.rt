@@ -6,7 +6,7 @@ ghost use Rattle.tda_spine.specs.Read as spine;
 ghost use Rattle.tda_tool.specs.Totals as totals;
 ghost use Rattle.tda_tool.specs.Words.{command_of};
 ghost use Rattle.tda_tool.specs.Due.{file_limit};
-ghost use Rattle.tda_tool.specs.Reading.{name_of, path_of, GivesBytes, GivesFile, AsksFile, Gathers, AsksFiles, Counts};
+ghost use Rattle.tda_tool.specs.Reading.{name_of, path_of, GivesBytes, GivesFile, AsksFile, Gathers, AsksFiles, Counts, AreTotals};
 
 use crate::totals::{TotFault, Totals, read_totals};
 use crate::words::{Command, value_of};
@@ -63,10 +63,13 @@ pub(crate) struct Inputs {
 
 impl Model for Inputs {
     ghost use Rattle.tda_tool.specs.Attained as spec;
+    ghost use Rattle.tda_tool.specs.Reading.{AreTotals};
 
     ghost Value = { spec.Inputs };
 
     ghost view = { λ i. record { schema = i.schema; spine = i.spine; totals = i.totals } };
+
+    ghost invariant = { λ i. AreTotals i.spine i.totals };
 }
 
 // Where the command finds a file.
@@ -147,6 +150,7 @@ fn read_totals_file<I: Inbox>(
     requires command { command_of (map string_bytes words.now) ≡ Some Command.Fit }
     requires room { I.faults inbox.old < 2 ^ 64 - 1 }
     ensures file { GivesFile (map string_bytes words.now) File.Totals (totals.read spine.now) (I.told inbox.old) result }
+    ensures totals { IfOk result (AreTotals spine.now) }
     ensures asked { AsksFile (map string_bytes words.now) File.Totals (I.told inbox.old) (I.told inbox.new) result }
     ensures cause { Counts (I.faults inbox.old) (I.faults inbox.new) result }
 {
