@@ -4,7 +4,7 @@ use Rattle.std.specs.Fmt.{decimal}
 use Rattle.tda_io.specs.Due.{◌>>=◌}
 use Rattle.tda_model.specs.Spine.{Spine, fit_count}
 use Rattle.tda_schema.specs.Read as schema
-use Rattle.tda_spine.specs.Read as spine
+use Rattle.tda_spine.specs.Judged as spine
 use Rattle.tda_tool.specs.Totals as totals
 use Rattle.tda_tool.specs.Attained.{Inputs}
 use Rattle.tda_tool.specs.Words.{command_of, reads_of}

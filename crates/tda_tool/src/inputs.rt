@@ -2,7 +2,7 @@
 ghost use Rattle.std.specs.Prelude.{◌≡◌, ◌-◌, ◌^◌, ◌<◌, ◌≤◌, IfOk, map, length, string_bytes, Some};
 ghost use Rattle.tda_io.specs.Due.{Gives};
 ghost use Rattle.tda_schema.specs.Read as schema;
-ghost use Rattle.tda_spine.specs.Read as spine;
+ghost use Rattle.tda_spine.specs.Judged as spine;
 ghost use Rattle.tda_tool.specs.Totals as totals;
 ghost use Rattle.tda_tool.specs.Words.{command_of};
 ghost use Rattle.tda_tool.specs.Due.{file_limit};
@@ -54,7 +54,7 @@ pub(crate) enum Stop {
 }
 
 /// What `fit` makes tables from.
-#[derive(Debug, Drop)]
+#[derive(Drop)]
 pub(crate) struct Inputs {
     pub(crate) schema: Schema,
     pub(crate) spine: Spine,

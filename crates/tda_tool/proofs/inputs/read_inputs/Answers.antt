@@ -1,6 +1,6 @@
 use Rattle.std.proofs.Common.{map, string_bytes}
 use Rattle.tda_schema.specs.Read as schema
-use Rattle.tda_spine.specs.Read as spine
+use Rattle.tda_spine.specs.Judged as spine
 use Rattle.tda_tool.specs.Totals as totals
 use Rattle.tda_tool.specs.declared.inputs.File.TheVariants as file
 use Rattle.tda_tool.proofs.Reading.{asks_no_name, fit_asks, fit_asks_all, stopped}

@@ -1,5 +1,5 @@
 use Rattle.std.proofs.Common.{refl, codes}
-use Rattle.tda_spine.specs.Read as spine
+use Rattle.tda_spine.specs.Judged as spine
 use Rattle.tda_tool.proofs.Judged.{accepted, refused}
 use Rattle.tda_tool.proofs.inputs.read_spine_file.Goals as goal
 
