@@ -240,3 +240,78 @@ pub(crate) fn read_totals(alloc: Global, spine: &Spine, bytes: &[u8]) -> Result<
         Err(RowFault::NoMemory) => Err(TotFault::NoMemory),
     }
 }
+
+#[cfg(test)]
+mod tests {
+    use super::*;
+    use std::test::Fail;
+    use tda_schema::read_schema;
+    use tda_spine::read_spine;
+
+    const SCHEMA: &[u8] =
+        b"version = 1\ntotal = \"1\"\n[[attribute]]\nname = \"kind\"\nvalues = [\"house\"]\n[[level]]\nname = \"nation\"\n[[level]]\nname = \"state\"\n[[level]]\nname = \"block\"\n";
+
+    const SPINE: &[u8] =
+        b"unit,level,parent\nUS,nation,\nS1,state,US\nB1,block,S1\nS2,state,US\nB2,block,S2\n";
+
+    // Texts, and the total of each unit, or nothing where the text is refused.
+    const TEXTS: [(&[u8], &[u64]); 28] = [
+        (b"state,total\nS1,5\nS2,7\n", &[0, 5, 0, 7, 0]),
+        (b"state,total\nS2,7\nS1,5\n", &[0, 5, 0, 7, 0]),
+        (b"state,total\nS1,0\nS2,0\n", &[0, 0, 0, 0, 0]),
+        (b"state,total\r\n\"S1\",\"5\"\r\n\nS2,7", &[0, 5, 0, 7, 0]),
+        (
+            b"state,total\nS1,1073741824\nS2,0\n",
+            &[0, 1073741824, 0, 0, 0],
+        ),
+        (
+            b"state,total\nS1,1073741823\nS2,1\n",
+            &[0, 1073741823, 0, 1, 0],
+        ),
+        (b"state,total\nS1,1073741823\nS2,2\n", &[]),
+        (b"state,total\nS1,1073741825\nS2,0\n", &[]),
+        (b"state,total\nS1,18446744073709551616\nS2,0\n", &[]),
+        (b"", &[]),
+        (b"state,total\n", &[]),
+        (b"S1,5\nS2,7\n", &[]),
+        (b"total,state\nS1,5\nS2,7\n", &[]),
+        (b"State,total\nS1,5\nS2,7\n", &[]),
+        (b"state,total,\nS1,5,\nS2,7,\n", &[]),
+        (b"state,total\nS1,5,\nS2,7\n", &[]),
+        (b"state,total\nS1\nS2\n", &[]),
+        (b"state,total\nS1,5\n", &[]),
+        (b"state,total\nS1,5\nS2,7\nS1,5\n", &[]),
+        (b"state,total\nS1,0\nS2,7\nS1,5\n", &[]),
+        (b"state,total\nS1,5\nS2,7\nS3,0\n", &[]),
+        (b"state,total\nS1,5\nS2,7\nUS,12\n", &[]),
+        (b"state,total\nS1,5\nS2,7\nB1,5\n", &[]),
+        (b"state,total\ns1,5\nS2,7\n", &[]),
+        (b"state,total\nS1,05\nS2,7\n", &[]),
+        (b"state,total\nS1,+5\nS2,7\n", &[]),
+        (b"state,total\nS1,-5\nS2,7\n", &[]),
+        (b"state,total\nS1,\nS2,7\n", &[]),
+    ];
+
+    #[test]
+    fn reads_totals_of_states(rt: HostRuntime) -> Result<(), Fail> {
+        let schema = read_schema(rt.alloc(), SCHEMA)?;
+        let spine = read_spine(rt.alloc(), &schema, SPINE)?;
+        assert!(rt; spine.units() == 5);
+        for (number, (text, want)) in TEXTS.iter().enumerate() {
+            assert!(rt; text.len() <= 1000);
+            match read_totals(rt.alloc(), &spine, text) {
+                Ok(totals) => {
+                    assert!(rt; want.len() == 5, "text {number} is read");
+                    for (unit, total) in want.iter().enumerate() {
+                        assert_eq!(rt; totals.get(unit as u32), *total, "text {number}");
+                    }
+                }
+                Err(fault) => {
+                    assert!(rt; want.is_empty(), "text {number} is refused");
+                    assert_eq!(rt; fault, TotFault::NotYet);
+                }
+            }
+        }
+        Ok(())
+    }
+}
