@@ -76,7 +76,7 @@ begun_then names old mid new first later = record {
   count = first.count;
   within = first.within;
   report = later.report;
-  asked = asks_then _ _ old mid new first.asked (tail_is later.count later.report mid new later.asked)
+  asked = asks_then _ _ old mid new first.asked (tail_is later.count later.report mid new later.asked);
 }
 
 -- outputs without the report
@@ -85,7 +85,7 @@ begun_first names old new first = record {
   count = first.count;
   within = first.within;
   report = false;
-  asked = first.asked ∙ ap (λ ns. option_map (λ t. t.asked ++ ns) old) (sym (append-nil (take first.count names)))
+  asked = first.asked ∙ ap (λ ns. option_map (λ t. t.asked ++ ns) old) (sym (append-nil (take first.count names)));
 }
 
 -- the report alone, before any output

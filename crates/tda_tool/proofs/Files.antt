@@ -86,4 +86,3 @@ new_after_part name target text old new e ne (inl same) = rw same (empty_new nam
 new_after_part name target text None new e ne (inr (inl is)) = rw is tt
 new_after_part name target text (Some t) new e ne (inr (inl is)) = rw (is, e) refl
 new_after_part name target text old new e ne (inr (inr left)) = new_after_last name (part target (take left.0 text)) old new e ne left.2
-

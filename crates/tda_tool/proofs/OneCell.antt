@@ -34,8 +34,8 @@ module _ (sp : Spine) (nation : ℕ) (t : IsTree sp nation) where
       let deep : level_of sp u < sp.depth = t.within u here in
       let all = h.adds p.0 p.1.here (omega arith) in
       let one : count u ≤ sum_by count (children_of sp p.0) = range_each _ 0 (length sp.units)
-          (filter_each (λ c. count c ≤ sum_by count (children_of sp p.0)) (is_child sp p.0) _ (each_le_sum count (children_of sp p.0)))
-          u (omega arith) (omega (arith, here)) (child_named sp u p.0 p.1.named) in
+      (filter_each (λ c. count c ≤ sum_by count (children_of sp p.0)) (is_child sp p.0) _ (each_le_sum count (children_of sp p.0)))
+      u (omega arith) (omega (arith, here)) (child_named sp u p.0 p.1.named) in
       let ih = few total count most h low l p.0 p.1.here (omega arith) in
       omega arith
 

@@ -54,5 +54,5 @@ pub one_cell_text : (s : Schema) (sp : Spine) (home : ℕ) (count : ℕ → ℕ)
 one_cell_text s sp home count here =
     let row : ℕ → List ℕ = λ u. count_row (code_of sp u) home (count u) in
     ap (λ ys. tables_header ++ ys) (
-      flat_map_same (λ u. table_rows s (code_of sp u) (in_cell home count u)) row (units_in_order sp) (λ u. one_row s (code_of sp u) home count u here)
-      ∙ ap (λ ys. row (nation_of sp) ++ ys) (flat_map_nested row (children_of sp) (parents_of sp)))
+    flat_map_same (λ u. table_rows s (code_of sp u) (in_cell home count u)) row (units_in_order sp) (λ u. one_row s (code_of sp u) home count u here)
+    ∙ ap (λ ys. row (nation_of sp) ++ ys) (flat_map_nested row (children_of sp) (parents_of sp)))

@@ -43,29 +43,29 @@ module _ (sp : Spine) (nation : ℕ) (t : IsTree sp nation) (totals : List ℕ) 
             let root = t.root_alone p.0 p.1.here (omega arith) in
             child_named sp c nation (p.1.named ∙ ap Some root) ∙ sym (eq-eqb _ 1 e)
         | inr ne ↦ elim (cases_Bool (is_child sp nation c)) [
-            | inl is ↦
-                let above : level_of sp c ≡ level_of sp nation + 1 = (child_tells sp nation t nation c here is).above in
-                let root : level_of sp nation ≡ 0 = t.root_level in absurd (ne (omega arith))
-            | inr isnt ↦ isnt ∙ sym (ne_eqb _ 1 ne)
-          ]
+          | inl is ↦
+              let above : level_of sp c ≡ level_of sp nation + 1 = (child_tells sp nation t nation c here is).above in
+              let root : level_of sp nation ≡ 0 = t.root_level in absurd (ne (omega arith))
+          | inr isnt ↦ isnt ∙ sym (ne_eqb _ 1 ne)
+        ]
       ]
 
   adds_at : (l p : ℕ) → IsUnit sp p → level_of sp p ≡ l → l + 1 < sp.depth → plain_at sp totals l p ≡ sum_by (plain_count sp totals) (children_of sp p)
   adds_at zero p here e low =
       let root = t.root_alone p here e in
       let at_level : (c : ℕ) → HasParent sp c nation → slice_index totals c ≡ plain_count sp totals c = λ c h.
-          let above : level_of sp c ≡ level_of sp nation + 1 = h.above in
-          let here_root : level_of sp nation ≡ 0 = t.root_level in
-          let one : 1 ≡ level_of sp c = omega arith in ap (λ m. plain_at sp totals m c) one in
+      let above : level_of sp c ≡ level_of sp nation + 1 = h.above in
+      let here_root : level_of sp nation ≡ 0 = t.root_level in
+      let one : 1 ≡ level_of sp c = omega arith in ap (λ m. plain_at sp totals m c) one in
       sym (states (slice_index totals))
       ∙ sum_same (slice_index totals) (plain_count sp totals) (children_of sp nation) (each_child sp nation t _ nation (λ c here_c h. at_level c h))
       ∙ ap (λ v. sum_by (plain_count sp totals) (children_of sp v)) (sym root)
   adds_at (suc l) p here e low =
       let of_child : (c : ℕ) → HasParent sp c p → cond (is_first (children_of sp p) c) (plain_at sp totals (suc l) p) 0 ≡ plain_count sp totals c = λ c h.
-          let above : level_of sp c ≡ level_of sp p + 1 = h.above in
-          let two : suc (suc l) ≡ level_of sp c = omega arith in
-          sym (ap (λ o. elim o as (λ _. ℕ) [ Some q ↦ cond (is_first (children_of sp q) c) (plain_at sp totals (suc l) q) 0 | None ↦ 0 ]) h.named)
-          ∙ ap (λ m. plain_at sp totals m c) two in
+      let above : level_of sp c ≡ level_of sp p + 1 = h.above in
+      let two : suc (suc l) ≡ level_of sp c = omega arith in
+      sym (ap (λ o. elim o as (λ _. ℕ) [ Some q ↦ cond (is_first (children_of sp q) c) (plain_at sp totals (suc l) q) 0 | None ↦ 0 ]) h.named)
+      ∙ ap (λ m. plain_at sp totals m c) two in
       sym (first_alone (plain_at sp totals (suc l) p) (children_of sp p) (filter_ascends (is_child sp p) _ (range_ascends 0 (length sp.units)))
       (some_child p here (omega arith) (children_of sp p) refl))
       ∙ sum_same _ (plain_count sp totals) (children_of sp p) (each_child sp nation t _ p (λ c here_c h. of_child c h))
@@ -105,4 +105,3 @@ national_le sp totals sized =
 pub states_within : (sp : Spine) (n : ℕ) → n ≡ length sp.units → All (λ u. u < n) (units_at sp 1)
 states_within sp n sized =
     All-from_recursion (λ u. u < n) (units_at sp 1) (each_filter (λ u. u < n) (is_at sp 1) _ (each_range _ 0 (length sp.units) (λ u low high is. omega arith)))
-

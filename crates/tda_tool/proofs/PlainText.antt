@@ -22,7 +22,7 @@ plain_owed s sp totals home text at t sized few e =
     let count = plain_count sp totals in (
       in_cell home count,
       one_cell_attained (record { schema = s; spine = sp; totals = totals }) home count t at
-      (λ u here one. let le = get_or-le-sum_by (λ n. n) totals u 0 (omega arith) in omega arith)
-      (plain_shared sp (nation_of sp) t totals),
+          (λ u here one. let le = get_or-le-sum_by (λ n. n) totals u 0 (omega arith) in omega arith)
+          (plain_shared sp (nation_of sp) t totals),
       e ∙ append_assoc tables_header (plain_row sp totals home (nation_of sp)) _ ∙ sym (one_cell_text s sp home count at.here),
     )

@@ -71,7 +71,7 @@ wrote words holds r old new fitted left = record {
   accepted = fitted.accepted;
   tables = fitted.made.tables;
   attained = fitted.made.attained;
-  written = rw (fitted.made.text, fitted.made.fits) at left
+  written = rw (fitted.made.text, fitted.made.fits) at left;
 }
 
 pub fit_wrote : (words : List (List ℕ)) (shelf : Option Shelf) (r : Run) (old new : Option Tray) → IfOk r (λ a. IfSome shelf (λ s. IsDue words s.holds a))
@@ -110,7 +110,7 @@ refused_file words f shelf shelf_new old new suits is asked left = record {
   within = file_within words f suits;
   asked = asked;
   refused = rw (name_at f) at is;
-  written = rw (name_at f) at left
+  written = rw (name_at f) at left;
 }
 
 pub refused : (words : List (List ℕ)) (r : Run) (shelf shelf_new : Option Shelf) (old new : Option Tray) → IfOk r (SuitsWords words)
@@ -130,7 +130,7 @@ read_file words f shelf shelf_new old new suits is asked left = record {
   within = file_within words f suits;
   asked = asked;
   accepted = rw (name_at f) at is;
-  written = rw (name_at f) at left
+  written = rw (name_at f) at left;
 }
 
 pub failed_file : (words : List (List ℕ)) (r : Run) (shelf shelf_new : Option Shelf) (old new : Option Tray) → IfOk r (SuitsWords words)

@@ -41,7 +41,7 @@ pub asks_more : (names : List (List ℕ)) (n : ℕ) (old mid new : Option Shelf)
     → new ≡ option_map (asks (slice_index_or names n [])) mid → AsksFirst names (n + 1) old new
 asks_more names n old mid new h before is = record {
   within = omega arith;
-  asked = is ∙ ap (option_map (asks (slice_index_or names n []))) before.asked ∙ asks_next names n old h
+  asked = is ∙ ap (option_map (asks (slice_index_or names n []))) before.asked ∙ asks_next names n old h;
 }
 
 -- all names
@@ -96,7 +96,7 @@ pub asks_whole : (names : List (List ℕ)) (old new : Option Shelf) → new ≡ 
 asks_whole names old new is = record {
   count = length names;
   within = omega arith;
-  asked = is ∙ ap (λ ns. option_map (asks_all ns) old) (sym (take_all (length names) names (omega arith)))
+  asked = is ∙ ap (λ ns. option_map (asks_all ns) old) (sym (take_all (length names) names (omega arith)));
 }
 
 pub prepared_none : (words : List (List ℕ)) (old new : Option Shelf) (r : Result Answer NoMemory) → IsErr r → AsksPrefix (reads_of words) old new → AsksPrepared words old new r

@@ -66,6 +66,6 @@ fit_due (Err e) = e
 -- the ending that is due where no call of the inbox or the outbox fails
 abbrev pub due : List (List ℕ) → (List ℕ → Option (List ℕ)) → Ending
 due words holds = elim (command_of words) [
-    None ↦ words_ending
+  | None ↦ words_ending
   | Some Fit ↦ fit_due (inputs_from (given_by words holds))
-  ]
+]

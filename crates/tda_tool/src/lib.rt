@@ -14,3 +14,6 @@ mod words;
 
 pub use top::tool;
 pub use words::{Command, judge, value_of};
+
+#[cfg(test)]
+mod tests;

@@ -6,11 +6,18 @@ use std::alloc::Global;
 use std::test::Fail;
 use tda_io::{MemFile, MemInbox, MemOutbox, OutFault, Outbox};
 
-const SCHEMA: &str = "version = 1\ntotal = \"1\"\n\n[[attribute]]\nname = \"kind\"\nvalues = [\"house\"]\n\n[[level]]\nname = \"nation\"\n\n[[level]]\nname = \"state\"\n\n[[level]]\nname = \"block\"\n";
-const WITH_QUERY: &str = "version = 1\ntotal = \"1\"\n\n[[attribute]]\nname = \"kind\"\nvalues = [\"house\"]\n\n[[level]]\nname = \"nation\"\n\n[[level]]\nname = \"state\"\n\n[[level]]\nname = \"block\"\nquery = [{ name = \"total\", by = [], share = \"1\" }]\n";
+const SCHEMA: &str =
+    "version = 1\ntotal = \"1\"\n\n[[attribute]]\nname = \"kind\"\nvalues = [\"house\"]\n\n[[level]]\nname = \"nation\"\n\n[[level]]\nname = \"state\"\n\n[[level]]\nname = \"block\"\n";
+
+const WITH_QUERY: &str =
+    "version = 1\ntotal = \"1\"\n\n[[attribute]]\nname = \"kind\"\nvalues = [\"house\"]\n\n[[level]]\nname = \"nation\"\n\n[[level]]\nname = \"state\"\n\n[[level]]\nname = \"block\"\nquery = [{ name = \"total\", by = [], share = \"1\" }]\n";
+
 const SPINE: &str = "unit,level,parent\nUS,nation,\nS1,state,US\nB1,block,S1\nB2,block,S1\n";
+
 const CHILDLESS: &str = "unit,level,parent\nUS,nation,\nS1,state,US\n";
+
 const TOTALS: &str = "state,total\nS1,5\n";
+
 const WORDS: &str = "fit --schema a --spine b --totals c --tables d";
 
 // The words between spaces.
@@ -139,12 +146,20 @@ fn each_failing_call_has_its_status(rt: HostRuntime) -> Result<(), Fail> {
         (1, 0, "4|-=read schema\n"),
         (2, 0, "4|-=read spine\n"),
         (3, 0, "4|-=read totals\n"),
-        (4, 7, "0|d=unit,cell,count\nUS,0,5\nS1,0,5\nB1,0,5\n|-=ok fit fits=3\n"),
+        (
+            4,
+            7,
+            "0|d=unit,cell,count\nUS,0,5\nS1,0,5\nB1,0,5\n|-=ok fit fits=3\n",
+        ),
         (0, 1, "5"),
-        (0, 2, "5|d=unit,cell,count\nUS,"),
+        (0, 2, "5|d=unit,cell,count\nUS"),
         (0, 3, "5|d=unit,cell,count\nUS,0,5\nS1,0,5\nB1,0,5\n"),
         (0, 4, "5|d=unit,cell,count\nUS,0,5\nS1,0,5\nB1,0,5\n"),
-        (0, 5, "5|d=unit,cell,count\nUS,0,5\nS1,0,5\nB1,0,5\n|-=ok fit "),
+        (
+            0,
+            5,
+            "5|d=unit,cell,count\nUS,0,5\nS1,0,5\nB1,0,5\n|-=ok fit ",
+        ),
         (
             0,
             6,

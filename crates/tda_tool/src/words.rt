@@ -136,9 +136,7 @@ fn are_free(command: Command, pairs: &[String], names: &[&str]) -> bool
     ensures { let ps = pairs_of (map string_bytes pairs.now) in
         result ≡ list_all (is_free (values_in ps (form_of command).reads) (values_in ps (form_of command).writes)) (values_in ps (map (λ name. name.now) names.now)) }
 {
-    names
-        .iter()
-        .all(|name| is_free(command, pairs, value_or_empty(pairs, name)))
+    names.iter().all(|name| is_free(command, pairs, value_or_empty(pairs, name)))
 }
 
 // Whether the values are names of files, and the written ones differ from all others.

@@ -15,22 +15,22 @@ pub returns-in_err-spine-clause-asked : goal.returns-in_err-spine-clause-asked
 returns-in_err-spine-clause-asked g c =
     let words = map string_bytes c.args.words.now in
     stopped words file.Spine (spine.read c.in_ok-schema.schema) _ _ _ _ _ c.from_residual-in_err-spine.ensures.1 c.requires.command
-      (fit_asks words file.Schema _ _ _ c.requires.command (asks_no_name _ _) c.in_ok-schema.ensures.asked)
-      c.in_err-spine.ensures.file c.in_err-spine.ensures.asked
+    (fit_asks words file.Schema _ _ _ c.requires.command (asks_no_name _ _) c.in_ok-schema.ensures.asked)
+    c.in_err-spine.ensures.file c.in_err-spine.ensures.asked
 
 pub returns-in_err-totals-clause-asked : goal.returns-in_err-totals-clause-asked
 returns-in_err-totals-clause-asked g c =
     let words = map string_bytes c.args.words.now in
     stopped words file.Totals (totals.read c.in_ok-spine.spine) _ _ _ _ _ c.from_residual-in_err-totals.ensures.1 c.requires.command
-      (fit_asks words file.Spine _ _ _ c.requires.command
-        (fit_asks words file.Schema _ _ _ c.requires.command (asks_no_name _ _) c.in_ok-schema.ensures.asked) c.in_ok-spine.ensures.asked)
-      c.in_err-totals.ensures.file c.in_err-totals.ensures.asked
+    (fit_asks words file.Spine _ _ _ c.requires.command
+    (fit_asks words file.Schema _ _ _ c.requires.command (asks_no_name _ _) c.in_ok-schema.ensures.asked) c.in_ok-spine.ensures.asked)
+    c.in_err-totals.ensures.file c.in_err-totals.ensures.asked
 
 pub returns-clause-asked : goal.returns-clause-asked
 returns-clause-asked g c =
     let words = map string_bytes c.args.words.now in
     fit_asks_all words _ _ c.requires.command
-      (fit_asks words file.Totals _ _ _ c.requires.command
-        (fit_asks words file.Spine _ _ _ c.requires.command
-          (fit_asks words file.Schema _ _ _ c.requires.command (asks_no_name _ _) c.in_ok-schema.ensures.asked) c.in_ok-spine.ensures.asked)
-        c.in_ok-totals.ensures.asked)
+    (fit_asks words file.Totals _ _ _ c.requires.command
+    (fit_asks words file.Spine _ _ _ c.requires.command
+    (fit_asks words file.Schema _ _ _ c.requires.command (asks_no_name _ _) c.in_ok-schema.ensures.asked) c.in_ok-spine.ensures.asked)
+    c.in_ok-totals.ensures.asked)

@@ -5,7 +5,7 @@ use Rattle.tda_tool.proofs.words.times.Given as goal
 abbrev pub invariant-loop-rest : goal.invariant-loop-rest
 invariant-loop-rest l = record {
   counted : l.count + times_in (pairs_of (map string_bytes l.rest)) l.name ≡ times_in (pairs_of (map string_bytes l.pairs)) l.name;
-  few : l.count + length l.rest ≤ length l.pairs
+  few : l.count + length l.rest ≤ length l.pairs;
 }
 
 abbrev pub decreases-loop-rest : goal.decreases-loop-rest
