@@ -1,4 +1,4 @@
-ghost use Rattle.std.specs.Prelude.{◌≡◌, ◌-◌, ◌^◌, ◌<◌, None};
+ghost use Rattle.std.specs.Prelude.{◌≡◌, ◌-◌, ◌^◌, ◌<◌, IfOk};
 ghost use Rattle.tda_io.specs.Outside.{CountsOut};
 
 use super::*;
@@ -30,7 +30,9 @@ fn words_of(alloc: Global, line: &str) -> Result<Vec<String>, Fail> {
 }
 
 // An inbox with a schema `a`, a spine `b` and totals `c`, whose read of this number fails.
-fn inbox_of(alloc: Global, texts: [&str; 3], fail: u64) -> Result<MemInbox, Fail> {
+fn inbox_of(alloc: Global, texts: [&str; 3], fail: u64) -> Result<MemInbox, Fail>
+    ensures { IfOk result (λ inbox. inbox.faults ≡ 0) }
+{
     let mut files = Vec::new(alloc);
     for (name, text) in ["a", "b", "c"].into_iter().zip(texts) {
         files.push(MemFile {
