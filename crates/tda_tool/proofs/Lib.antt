@@ -1,3 +1,11 @@
+pub mod Values
+pub mod Reading
+pub mod Judged
+pub mod Files
+pub mod Begun
+pub mod Paths
+pub mod Ran
+pub mod TotalLemmas
 pub mod Attaining
 pub mod OneCell
 pub mod Parents

@@ -4,7 +4,7 @@ use Rattle.std.specs.Fmt.{decimal}
 use Rattle.tda_io.specs.Due.{◌>>=◌}
 use Rattle.tda_model.specs.Spine.{Spine, fit_count}
 use Rattle.tda_schema.specs.Read as schema
-use Rattle.tda_spine.specs.Read as spine
+use Rattle.tda_spine.specs.Judged as spine
 use Rattle.tda_tool.specs.Totals as totals
 use Rattle.tda_tool.specs.Attained.{Inputs}
 use Rattle.tda_tool.specs.Words.{command_of, reads_of}
@@ -66,6 +66,6 @@ fit_due (Err e) = e
 -- the ending that is due where no call of the inbox or the outbox fails
 abbrev pub due : List (List ℕ) → (List ℕ → Option (List ℕ)) → Ending
 due words holds = elim (command_of words) [
-    None ↦ words_ending
+  | None ↦ words_ending
   | Some Fit ↦ fit_due (inputs_from (given_by words holds))
-  ]
+]

@@ -4,3 +4,6 @@ pub mod Attained
 pub mod Plain
 pub mod Due
 pub mod Outcome
+pub mod Reading
+pub mod Output
+pub mod Answer
