@@ -1,0 +1,163 @@
+-- What a run leaves tells what the top call answers.
+use Rattle.std.proofs.Common.{◌≡◌, ◌≢◌, ◌≤◌, ◌<◌, ◌⊎◌, ◌↔◌, ◌∙◌, ◌+◌, ◌++◌, ◌∷◌, [], List, ℕ, Bool, true, false, length, take, map, refl, sym, ap, subst, arith, Option, Some, None, option_map, IfSome, inl, inr, Result, Ok, Err, IsTrue, slice_index_or}
+use Rattle.std.specs.Result.{IfOk}
+use Rattle.tda_io.specs.Outside.{Shelf, Tray, CountsOut}
+use Rattle.tda_io.specs.declared.outside.OutFault.{OutFault}
+use Rattle.tda_io.specs.declared.outside.OutFault.TheVariants as fault_out
+use Rattle.tda_tool.specs.Words.{command_of, reads_of, writes_of, fit_form, dash}
+use Rattle.tda_tool.specs.Due.{Ending, due, fit_due, words_ending, refused_ending, read_ending, fit_ending, inputs_from, given_by}
+use Rattle.tda_tool.specs.Outcome.{is_status, IsSettled, Leaves, LeavesReport, LeavesAll, FitWrote, FileRefused, ReadFailed, AsksPrefix, asks_all, BeginsPrefix, BeginsWhenDue, whole, with_all}
+use Rattle.tda_tool.specs.Reading.{name_of, number_of}
+use Rattle.tda_tool.specs.Answer.{ending_of, SuitsWords, IsDue, IsFitted, Asks, files_of, outputs_of, targets_of, tables_path, CountsAnswer, CountsRun, status_of}
+use Rattle.tda_tool.specs.declared.words.Command.{Command}
+use Rattle.tda_tool.specs.declared.words.Command.TheVariants.{Fit}
+use Rattle.tda_tool.specs.declared.inputs.File.{File}
+use Rattle.tda_tool.specs.declared.inputs.File.TheVariants as file
+use Rattle.tda_tool.specs.declared.answer.Answer.{Answer}
+use Rattle.tda_tool.specs.declared.answer.Answer.TheVariants as answer
+use Rattle.tda_tool.specs.declared.answer.Fitted.{Fitted}
+use Rattle.tda_tool.proofs.Begun.{begun_alone}
+use Rattle.tda_tool.proofs.Paths.{writes_one}
+use Rattle.tda_tool.proofs.Reading.{file_within}
+
+-- a run's answer and status
+abbrev Run : Type 0
+Run = Result Answer OutFault
+
+abbrev due_by : List (List ℕ) → (List ℕ → Option (List ℕ)) → Option Command → Ending
+due_by words holds None = words_ending
+due_by words holds (Some Fit) = fit_due (inputs_from (given_by words holds))
+
+-- what is due
+due_words : (words : List (List ℕ)) (holds : List ℕ → Option (List ℕ)) → command_of words ≡ None → due words holds ≡ words_ending
+due_words words holds is = ap (due_by words holds) is
+
+due_refused : (words : List (List ℕ)) (holds : List ℕ → Option (List ℕ)) (f : File) → command_of words ≡ Some Fit
+    → inputs_from (given_by words holds) ≡ Err (refused_ending (name_of f)) → due words holds ≡ refused_ending (name_of f)
+due_refused words holds f is stops = ap (due_by words holds) is ∙ ap fit_due stops
+
+due_fit : (words : List (List ℕ)) (holds : List ℕ → Option (List ℕ)) (r : Fitted) → command_of words ≡ Some Fit → (fitted : IsFitted words holds r) → due words holds ≡ fit_ending fitted.inputs.spine
+due_fit words holds r is fitted = ap (due_by words holds) is ∙ ap fit_due fitted.accepted
+
+pub settled : (words : List (List ℕ)) (shelf : Option Shelf) (r : Run) → IfOk r (SuitsWords words) → IfOk r (λ a. IfSome shelf (λ s. IsDue words s.holds a))
+    → IsSettled (status_of r) → IfSome shelf (λ s. (due words s.holds).status ≡ status_of r)
+settled words None r suits is calm = tt
+settled words (Some s) (Ok answer.Words) suits is calm = ap (λ e. e.status) (due_words words s.holds suits)
+settled words (Some s) (Ok (answer.Refused f)) suits is calm = ap (λ e. e.status) (due_refused words s.holds f suits is)
+settled words (Some s) (Ok (answer.Read f)) suits is calm = absurd (calm.read refl)
+settled words (Some s) (Ok (answer.Fit r)) suits is calm = ap (λ e. e.status) (due_fit words s.holds r suits is)
+settled words (Some s) (Err fault_out.Failed) suits is calm = absurd (calm.written refl)
+settled words (Some s) (Err fault_out.NoMemory) suits is calm = absurd (calm.remembered refl)
+
+-- the report that is due stands alone
+report_is : (e d : Ending) (old new : Option Tray) → d ≡ e → LeavesReport e.report old new → LeavesReport d.report old new
+report_is e d old new is left = rw is left
+
+pub settled_report : (words : List (List ℕ)) (shelf : Option Shelf) (r : Run) (old new : Option Tray) → IfOk r (SuitsWords words) → IfOk r (λ a. IfSome shelf (λ s. IsDue words s.holds a))
+    → IfOk r (λ a. Leaves (files_of words a) old new)
+    → IsSettled (status_of r) → status_of r ≢ 0 → IfSome shelf (λ s. LeavesReport (due words s.holds).report old new)
+settled_report words None r old new suits is left calm some = tt
+settled_report words (Some s) (Ok answer.Words) old new suits is left calm some = report_is words_ending _ old new (due_words words s.holds suits) left
+settled_report words (Some s) (Ok (answer.Refused f)) old new suits is left calm some = report_is (refused_ending (name_of f)) _ old new (due_refused words s.holds f suits is) left
+settled_report words (Some s) (Ok (answer.Read f)) old new suits is left calm some = absurd (calm.read refl)
+settled_report words (Some s) (Ok (answer.Fit r)) old new suits is left calm some = absurd (some refl)
+settled_report words (Some s) (Err fault_out.Failed) old new suits is left calm some = absurd (calm.written refl)
+settled_report words (Some s) (Err fault_out.NoMemory) old new suits is left calm some = absurd (calm.remembered refl)
+
+-- the tables
+wrote : (words : List (List ℕ)) (holds : List ℕ → Option (List ℕ)) (r : Fitted) (old new : Option Tray) → IsFitted words holds r → Leaves (files_of words (answer.Fit r)) old new → FitWrote words holds old new
+wrote words holds r old new fitted left = record {
+  inputs = fitted.inputs;
+  accepted = fitted.accepted;
+  tables = fitted.made.tables;
+  attained = fitted.made.attained;
+  written = rw (fitted.made.text, fitted.made.fits) at left;
+}
+
+pub fit_wrote : (words : List (List ℕ)) (shelf : Option Shelf) (r : Run) (old new : Option Tray) → IfOk r (λ a. IfSome shelf (λ s. IsDue words s.holds a))
+    → IfOk r (λ a. Leaves (files_of words a) old new) → status_of r ≡ 0 → IfSome shelf (λ s. FitWrote words s.holds old new)
+fit_wrote words None r old new is left done = tt
+fit_wrote words (Some s) (Ok answer.Words) old new is left done = cc done
+fit_wrote words (Some s) (Ok (answer.Refused f)) old new is left done = cc done
+fit_wrote words (Some s) (Ok (answer.Read f)) old new is left done = cc done
+fit_wrote words (Some s) (Ok (answer.Fit r)) old new is left done = wrote words s.holds r old new is left
+fit_wrote words (Some s) (Err fault_out.Failed) old new is left done = cc done
+fit_wrote words (Some s) (Err fault_out.NoMemory) old new is left done = cc done
+
+wrote_all : (words : List (List ℕ)) (r : Fitted) (old new : Option Tray) → command_of words ≡ Some Fit → Leaves (files_of words (answer.Fit r)) old new → LeavesAll (writes_of words) old new
+wrote_all words r old new is left =
+    let all : LeavesAll (tables_path words ∷ []) old new = record { texts = r.tables.items ∷ []; each = refl; report = (ending_of (answer.Fit r)).report; written = left } in
+    subst (λ names. LeavesAll names old new) (sym (writes_one words is)) all
+
+pub all_written : (words : List (List ℕ)) (r : Run) (old new : Option Tray) → IfOk r (SuitsWords words) → IfOk r (λ a. Leaves (files_of words a) old new) → status_of r ≡ 0 → LeavesAll (writes_of words) old new
+all_written words (Ok answer.Words) old new suits left done = cc done
+all_written words (Ok (answer.Refused f)) old new suits left done = cc done
+all_written words (Ok (answer.Read f)) old new suits left done = cc done
+all_written words (Ok (answer.Fit r)) old new suits left done = wrote_all words r old new suits left
+all_written words (Err fault_out.Failed) old new suits left done = cc done
+all_written words (Err fault_out.NoMemory) old new suits left done = cc done
+
+-- the name of a file by its place
+name_at : (f : File) → name_of f ≡ slice_index_or fit_form.reads (number_of f) []
+name_at file.Schema = refl
+name_at file.Spine = refl
+name_at file.Totals = refl
+
+refused_file : (words : List (List ℕ)) (f : File) (shelf shelf_new : Option Shelf) (old new : Option Tray) → SuitsWords words (answer.Refused f)
+    → IfSome shelf (λ s. IsDue words s.holds (answer.Refused f)) → Asks words shelf shelf_new (answer.Refused f) → Leaves (files_of words (answer.Refused f)) old new → FileRefused words shelf shelf_new old new
+refused_file words f shelf shelf_new old new suits is asked left = record {
+  file = number_of f;
+  within = file_within words f suits;
+  asked = asked;
+  refused = rw (name_at f) at is;
+  written = rw (name_at f) at left;
+}
+
+pub refused : (words : List (List ℕ)) (r : Run) (shelf shelf_new : Option Shelf) (old new : Option Tray) → IfOk r (SuitsWords words)
+    → IfOk r (λ a. IfSome shelf (λ s. IsDue words s.holds a)) → IfOk r (Asks words shelf shelf_new) → IfOk r (λ a. Leaves (files_of words a) old new)
+    → status_of r ≡ 3 → FileRefused words shelf shelf_new old new
+refused words (Ok answer.Words) shelf shelf_new old new suits is asked left three = cc three
+refused words (Ok (answer.Refused f)) shelf shelf_new old new suits is asked left three = refused_file words f shelf shelf_new old new suits is asked left
+refused words (Ok (answer.Read f)) shelf shelf_new old new suits is asked left three = cc three
+refused words (Ok (answer.Fit r)) shelf shelf_new old new suits is asked left three = cc three
+refused words (Err fault_out.Failed) shelf shelf_new old new suits is asked left three = cc three
+refused words (Err fault_out.NoMemory) shelf shelf_new old new suits is asked left three = cc three
+
+read_file : (words : List (List ℕ)) (f : File) (shelf shelf_new : Option Shelf) (old new : Option Tray) → SuitsWords words (answer.Read f)
+    → IfSome shelf (λ s. IsDue words s.holds (answer.Read f)) → Asks words shelf shelf_new (answer.Read f) → Leaves (files_of words (answer.Read f)) old new → ReadFailed words shelf shelf_new old new
+read_file words f shelf shelf_new old new suits is asked left = record {
+  file = number_of f;
+  within = file_within words f suits;
+  asked = asked;
+  accepted = rw (name_at f) at is;
+  written = rw (name_at f) at left;
+}
+
+pub failed_file : (words : List (List ℕ)) (r : Run) (shelf shelf_new : Option Shelf) (old new : Option Tray) → IfOk r (SuitsWords words)
+    → IfOk r (λ a. IfSome shelf (λ s. IsDue words s.holds a)) → IfOk r (Asks words shelf shelf_new) → IfOk r (λ a. Leaves (files_of words a) old new)
+    → status_of r ≡ 4 → ReadFailed words shelf shelf_new old new
+failed_file words (Ok answer.Words) shelf shelf_new old new suits is asked left four = cc four
+failed_file words (Ok (answer.Refused f)) shelf shelf_new old new suits is asked left four = cc four
+failed_file words (Ok (answer.Read f)) shelf shelf_new old new suits is asked left four = read_file words f shelf shelf_new old new suits is asked left
+failed_file words (Ok (answer.Fit r)) shelf shelf_new old new suits is asked left four = cc four
+failed_file words (Err fault_out.Failed) shelf shelf_new old new suits is asked left four = cc four
+failed_file words (Err fault_out.NoMemory) shelf shelf_new old new suits is asked left four = cc four
+
+-- an answer's outputs are the first ones of the command
+pub begun_by : (words : List (List ℕ)) (a : Answer) (old new : Option Tray) → SuitsWords words a → BeginsPrefix (targets_of words a) old new → BeginsPrefix (writes_of words) old new
+begun_by words answer.Words old new suits begun = begun_alone _ old new begun
+begun_by words (answer.Refused f) old new suits begun = begun_alone _ old new begun
+begun_by words (answer.Read f) old new suits begun = begun_alone _ old new begun
+begun_by words (answer.Fit r) old new suits begun = subst (λ names. BeginsPrefix names old new) (sym (writes_one words suits)) begun
+
+fit_status : (words : List (List ℕ)) (shelf : Option Shelf) (r : Fitted) → command_of words ≡ Some Fit → IfSome shelf (λ s. IsFitted words s.holds r) → IfSome shelf (λ s. (due words s.holds).status ≡ 0)
+fit_status words None r suits is = tt
+fit_status words (Some s) r suits is = ap (λ e. e.status) (due_fit words s.holds r suits is)
+
+-- outputs are begun only for tables that are due
+pub begun_when_due : (words : List (List ℕ)) (a : Answer) (shelf : Option Shelf) (before now : ℕ) (old new : Option Tray) → SuitsWords words a → IfSome shelf (λ s. IsDue words s.holds a)
+    → CountsAnswer before now a → BeginsPrefix (targets_of words a) old new → BeginsWhenDue words shelf before now old new
+begun_when_due words answer.Words shelf before now old new suits is count begun = inl begun
+begun_when_due words (answer.Refused f) shelf before now old new suits is count begun = inl begun
+begun_when_due words (answer.Read f) shelf before now old new suits is count begun = inl begun
+begun_when_due words (answer.Fit r) shelf before now old new suits is count begun = inr (count, fit_status words shelf r suits is)

@@ -1,0 +1,105 @@
+-- What a run of the program asked for, and what it leaves in the outbox.
+use Rattle.std.specs.Prelude.{◌≡◌, ◌≢◌, ◌<◌, ◌≤◌, ◌⊎◌, ◌+◌, ◌==◌, ℕ, Bool, true, false, if◌then◌else◌, List, [], ◌∷◌, ◌++◌, length, take, map, slice_index_or, Option, Some, None, IfSome, option_map, Result, Ok, Err}
+use Rattle.std.specs.List.{list_any, zip}
+use Rattle.tda_io.specs.Outside.{Shelf, Tray, Written}
+use Rattle.tda_model.specs.Tables.{Tables}
+use Rattle.tda_model.specs.TablesText.{tables_text}
+use Rattle.tda_tool.specs.Attained.{Inputs, IsAttained}
+use Rattle.tda_tool.specs.Words.{reads_of, writes_of, fit_form, dash}
+use Rattle.tda_tool.specs.Due.{Ending, inputs_from, given_by, failing_at, due, fit_ending, read_ending, refused_ending}
+
+-- a file with all its bytes, ended
+abbrev pub whole : List ℕ → List ℕ → Written
+whole name text = record { name = name; bytes = text; ended = true }
+
+-- the tray with one more file, last
+abbrev pub with_last : Written → Tray → Tray
+with_last file t = record { files = t.files ++ file ∷ []; asked = t.asked ++ file.name ∷ [] }
+
+-- the tray with these files after the others
+abbrev pub with_all : List Written → Tray → Tray
+with_all [] t = t
+with_all (f ∷ fs) t = with_all fs (with_last f t)
+
+-- these files, and no others, were begun in the call, and all are whole and ended
+abbrev pub Leaves : List Written → Option Tray → Option Tray → Type 0
+Leaves files old new = new ≡ option_map (with_all files) old
+
+-- nothing but the report was begun, and it is whole
+abbrev pub LeavesReport : List ℕ → Option Tray → Option Tray → Type 0
+LeavesReport report old new = Leaves (whole dash report ∷ []) old new
+
+-- nothing is begun
+abbrev pub IsEmpty : Tray → Type 0
+IsEmpty t = t.files ≡ []
+
+-- the statuses that the program ends with
+abbrev pub is_status : ℕ → Bool
+is_status status = list_any (λ s. status == s) (0 ∷ 2 ∷ 3 ∷ 4 ∷ 5 ∷ 8 ∷ [])
+
+-- no object failed, memory sufficed: the status is neither 4, 5 nor 8
+pub record IsSettled (status : ℕ) : Type 0 where
+  pub read : status ≢ 4
+  pub written : status ≢ 5
+  pub remembered : status ≢ 8
+
+-- the shelf with more names asked for
+abbrev pub asks_all : List (List ℕ) → Shelf → Shelf
+asks_all names s = record s { asked = s.asked ++ names }
+
+-- the first ones of these names, and no others, were asked for
+pub record AsksPrefix (names : List (List ℕ)) (old new : Option Shelf) : Type 0 where
+  pub count : ℕ
+  pub within : count ≤ length names
+  pub asked : new ≡ option_map (asks_all (take count names)) old
+
+-- `begin` was asked for these names, in this order
+abbrev pub AsksBegin : List (List ℕ) → Option Tray → Option Tray → Type 0
+AsksBegin names old new = option_map (λ t. t.asked) new ≡ option_map (λ t. t.asked ++ names) old
+
+-- `begin` was asked for the first ones of these names, or for them and then for the report
+pub record BeginsPrefix (names : List (List ℕ)) (old new : Option Tray) : Type 0 where
+  pub count : ℕ
+  pub within : count ≤ length names
+  pub report : Bool
+  pub asked : AsksBegin (take count names ++ (if report then dash ∷ [] else [])) old new
+
+-- Files of these names, one each and in this order, and then the report were begun in the call, and all are whole and ended.
+pub record LeavesAll (names : List (List ℕ)) (old new : Option Tray) : Type 0 where
+  pub texts : List (List ℕ)
+  pub each : length texts ≡ length names
+  pub report : List ℕ
+  pub written : Leaves (map (λ p. whole p.0 p.1) (zip names texts) ++ whole dash report ∷ []) old new
+
+-- One of the command's files isn't accepted: the files before it were, the names asked for are those up to it,
+-- and nothing but the report of it was begun.
+pub record FileRefused (words : List (List ℕ)) (shelf shelf_new : Option Shelf) (old new : Option Tray) : Type 0 where
+  pub file : ℕ
+  pub within : file < length (reads_of words)
+  pub asked : shelf_new ≡ option_map (asks_all (take (file + 1) (reads_of words))) shelf
+  pub refused : IfSome shelf (λ s. inputs_from (given_by words s.holds) ≡ Err (refused_ending (slice_index_or fit_form.reads file [])))
+  pub written : LeavesReport (refused_ending (slice_index_or fit_form.reads file [])).report old new
+
+-- Outputs are begun only where no file was refused and no read failed.
+abbrev pub BeginsWhenDue : List (List ℕ) → Option Shelf → ℕ → ℕ → Option Tray → Option Tray → Type 0
+BeginsWhenDue words shelf before now old new =
+    BeginsPrefix [] old new ⊎ ((now ≡ before) × IfSome shelf (λ s. (due words s.holds).status ≡ 0))
+
+-- The read of one of the command's files failed: the files before it were accepted, the names asked for
+-- are those up to it, and nothing but the report of it was begun.
+pub record ReadFailed (words : List (List ℕ)) (shelf shelf_new : Option Shelf) (old new : Option Tray) : Type 0 where
+  pub file : ℕ
+  pub within : file < length (reads_of words)
+  pub asked : shelf_new ≡ option_map (asks_all (take (file + 1) (reads_of words))) shelf
+  pub accepted : IfSome shelf (λ s. inputs_from (failing_at file (given_by words s.holds)) ≡ Err (read_ending (slice_index_or fit_form.reads file [])))
+  pub written : LeavesReport (read_ending (slice_index_or fit_form.reads file [])).report old new
+
+-- `fit` wrote the text of tables that are attained over the files that the inbox holds, and its report, and nothing else.
+pub record FitWrote (words : List (List ℕ)) (holds : List ℕ → Option (List ℕ)) (old new : Option Tray) : Type 0 where
+  pub inputs : Inputs
+  pub accepted : inputs_from (given_by words holds) ≡ Ok inputs
+  pub tables : Tables
+  pub attained : IsAttained inputs tables
+  pub written : Leaves
+      (whole (slice_index_or (writes_of words) 0 []) (tables_text inputs.schema inputs.spine tables)
+      ∷ whole dash (fit_ending inputs.spine).report ∷ []) old new

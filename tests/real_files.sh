@@ -1,0 +1,78 @@
+#!/bin/sh
+# What the built program answers where real files fail. Skips what this machine can't show.
+# Its last line counts: N passed, M failed, K skipped.
+top=$(CDPATH='' cd -- "$(dirname -- "$0")/.." && pwd) || exit 1
+tda=$top/tda
+data=$top/examples/small
+folder=$(mktemp -d) || exit 1
+trap 'chmod -R u+w "$folder" && rm -rf "$folder"' EXIT
+passed=0 failed=0 skipped=0
+
+# try NAME STATUS REPORT WORD..: the program's status, and its report (`-`: none)
+try() {
+  name=$1 status=$2 report=$3
+  shift 3
+  answer=$("$@" 2>"$folder/errors" </dev/null)
+  found=$?
+  [ "$report" = - ] && report=
+  if [ "$found" = "$status" ] && [ "$answer" = "$report" ]; then
+    passed=$((passed + 1))
+  else
+    failed=$((failed + 1))
+    echo "failed: $name: status $found, report '$answer', where $status and '$report' are due"
+  fi
+}
+
+skip() {
+  skipped=$((skipped + 1))
+  echo "skipped: $1"
+}
+
+# fit SCHEMA SPINE TOTALS TABLES
+fit() {
+  "$tda" fit --schema "$1" --spine "$2" --totals "$3" --tables "$4"
+}
+
+fit_to_full_device() {
+  fit "$data/schema.toml" "$data/spine.csv" "$data/totals.csv" "$folder/other.csv" >/dev/full
+}
+
+try "a release" 0 "ok fit fits=8" fit "$data/schema.toml" "$data/spine.csv" "$data/totals.csv" "$folder/tables.csv"
+try "its tables" 0 "unit,cell,count
+US,0,465
+North,0,120
+South,0,345
+N1,0,120
+N1.1,0,120
+N1.1.a,0,120
+S1,0,345
+S1.1,0,345
+S1.1.a,0,345" cat "$folder/tables.csv"
+try "no words" 2 words "$tda"
+try "a missing file" 4 "read schema" fit "$folder/none" "$data/spine.csv" "$data/totals.csv" "$folder/new.csv"
+try "a missing second file" 4 "read spine" fit "$data/schema.toml" "$folder/none" "$data/totals.csv" "$folder/new.csv"
+try "a folder in place of a file" 4 "read totals" fit "$data/schema.toml" "$data/spine.csv" "$folder" "$folder/new.csv"
+try "a file that isn't accepted" 3 "refused spine NotYet" fit "$data/schema.toml" "$data/totals.csv" "$data/totals.csv" "$folder/new.csv"
+try "a missing file after a refused one" 3 "refused schema NotYet" fit "$data/spine.csv" "$folder/none" "$folder/none" "$folder/new.csv"
+try "nothing but the report was begun" 1 - ls "$folder/new.csv"
+try "an output in a folder that isn't there" 5 - fit "$data/schema.toml" "$data/spine.csv" "$data/totals.csv" "$folder/none/tables.csv"
+try "a folder in place of an output" 5 - fit "$data/schema.toml" "$data/spine.csv" "$data/totals.csv" "$folder"
+
+cp "$data/schema.toml" "$folder/closed" && chmod 000 "$folder/closed"
+if cat "$folder/closed" >/dev/null 2>&1; then
+  skip "a file without read permission (this user may read any file)"
+else
+  try "a file without read permission" 4 "read schema" fit "$folder/closed" "$data/spine.csv" "$data/totals.csv" "$folder/new.csv"
+fi
+
+if [ -c /dev/full ] && ! (echo full >/dev/full) 2>/dev/null; then
+  try "a full device" 5 - fit "$data/schema.toml" "$data/spine.csv" "$data/totals.csv" /dev/full
+  try "a report to a full device" 5 - fit_to_full_device
+  try "its output stands" 0 "$(cat "$folder/tables.csv")" cat "$folder/other.csv"
+else
+  skip "a full device (there is no /dev/full)"
+  skip "a report to a full device (there is no /dev/full)"
+fi
+
+echo "$passed passed, $failed failed, $skipped skipped"
+[ "$failed" = 0 ]
