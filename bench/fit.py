@@ -1,8 +1,8 @@
 #!/usr/bin/env python3
 """Runs `tda fit` on spines of growing size over five levels.
 
-Prints for each size the seconds, the ratio to the former size, and the peak memory, above what the program
-needs on the smallest release of all.  Usage: bench/fit.py [PROGRAM]   (made by ./tda: crates/tda/out/tda)
+Prints for each size the seconds, the ratio to the former size of the seconds above what the smallest release of all
+needs, and the peak memory.  Usage: bench/fit.py [PROGRAM]   (made by ./tda: crates/tda/out/tda)
 """
 import os
 import pathlib
