@@ -7,7 +7,7 @@ use Rattle.std.proofs.lemmas.List.{length-map}
 use Rattle.tda_model.specs.Schema.{Attribute}
 use Rattle.tda_schema.specs.Readers.{plain_schema, IsKept}
 use Rattle.tda_schema.specs.Raw.{RawLevel, RawSchema}
-use Rattle.tda_schema.specs.Sizes.{is_within, level_has_size, has_sizes, has_one_value, is_thin}
+use Rattle.tda_schema.specs.Sizes.{is_within, recode_has_size, has_sizes, has_one_value, is_thin}
 use Rattle.tda_schema.specs.Read.{plain_level, schema_of}
 
 -- what a list of one element has
@@ -21,7 +21,7 @@ plain_levels (l ∷ rest) zero d below = refl
 plain_levels (l ∷ rest) (suc k) d below = plain_levels rest k d (omega arith)
 
 few_levels : (raw : RawSchema) → has_sizes raw ≡ true → is_within 2 7 (length raw.levels) ≡ true
-few_levels raw sized = (and_parts _ _ (and_parts _ (list_all level_has_size raw.levels) sized).0).1
+few_levels raw sized = (and_parts _ _ (and_parts _ _ (and_parts _ _ (and_parts _ (list_all (recode_has_size raw.attributes) raw.recodes) sized).0).0).0).1
 
 one_value : (raw : RawSchema) → is_thin raw ≡ true → has_one_value raw.attributes ≡ true
 one_value raw thin = (and_parts _ _ (and_parts _ _ (and_parts _ _ (and_parts _ _ thin).0).0).0).0

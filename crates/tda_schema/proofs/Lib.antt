@@ -1,5 +1,6 @@
 pub mod Thin
 pub mod CellOf
+pub mod CellsIn
 pub mod Positions
 pub mod Each
 pub mod KeyLemmas
