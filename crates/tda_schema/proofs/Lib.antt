@@ -7,3 +7,4 @@ pub mod KeyLemmas
 pub mod Documents
 pub mod Distinct
 pub mod Kept
+pub mod Named

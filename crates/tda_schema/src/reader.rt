@@ -4,6 +4,7 @@ ghost use Rattle.toml.specs.View.{table_view};
 ghost use Rattle.tda_io.specs.Due.{Gives};
 ghost use Rattle.tda_schema.specs.declared.fault.SchemaFault.TheVariants.{NotYet};
 ghost use Rattle.tda_schema.specs.Typed.{found};
+ghost use Rattle.tda_schema.specs.Names as names;
 ghost use Rattle.tda_schema.specs.Sizes as sizes;
 ghost use Rattle.tda_schema.specs.Read as spec;
 
@@ -82,6 +83,8 @@ fn levels_of(alloc: Global, levels: &[RawLevel<'_>]) -> Result<Vec<Level>, NoMem
 
 // A thin schema, as its text says it.
 fn schema_of(alloc: Global, raw: &RawSchema<'_>) -> Result<Schema, NoMemory>
+    requires named { IsTrue (names.has_names raw.now) }
+    requires distinct { IsTrue (names.is_distinct raw.now) }
     requires sized { IsTrue (sizes.has_sizes raw.now) }
     requires thin { IsTrue (sizes.is_thin raw.now) }
     ensures { IfOk result (λ s. s ≡ spec.schema_of raw.now) }
