@@ -1,8 +1,10 @@
 pub mod Thin
 pub mod CellOf
+pub mod CellsIn
 pub mod Positions
 pub mod Each
 pub mod KeyLemmas
 pub mod Documents
 pub mod Distinct
 pub mod Kept
+pub mod Named

@@ -39,7 +39,7 @@ is_complete Recode ms = has (codes "name") ms && has (codes "of") ms && has (cod
 is_complete Level ms = has (codes "name") ms
 is_complete Query ms = has (codes "name") ms && has (codes "by") ms && has (codes "share") ms
 
--- A table has no key that isn't listed, or each key that it has to have.
+-- what a test asks of a table: that each key is listed, or that no required key is missing
 abbrev pub table_passes : KeyTest → TableKind → Members → Bool
 table_passes Known kind ms = all_known kind ms
 table_passes Complete kind ms = is_complete kind ms

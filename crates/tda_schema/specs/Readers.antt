@@ -1,7 +1,9 @@
 -- What the readers of a schema give, and what each schema keeps.
-use Rattle.std.specs.Prelude.{◌≡◌, ℕ, ◌≤◌, List, [], ◌∷◌, length, map, All, Some, None, slice_get}
+use Rattle.std.specs.Prelude.{◌≡◌, ℕ, ◌≤◌, true, List, [], ◌∷◌, length, map, All, Some, None, slice_get}
+use Rattle.std.specs.List.{AllPass}
 use Rattle.tda_model.specs.Schema.{Attribute, Level, Schema}
 use Rattle.tda_model.specs.Cells.{cell_count}
+use Rattle.tda_schema.specs.Names.{is_name, are_distinct}
 
 -- the values of an attribute, by its number
 abbrev pub values_of : Schema → ℕ → List (List ℕ)
@@ -16,6 +18,13 @@ pub record IsWithinLimits (s : Schema) : Type 0 where
   pub cells : cell_count s ≤ 4096
   pub some_levels : 2 ≤ length s.levels
   pub levels : length s.levels ≤ 7
+
+-- names are names, and no two levels have the same
+pub record IsNamed (s : Schema) : Type 0 where
+  pub attributes : AllPass (λ a. is_name a.name) s.attributes
+  pub values : All (λ a. AllPass is_name a.values) s.attributes
+  pub levels : AllPass (λ l. is_name l.name) s.levels
+  pub distinct : are_distinct (map (λ l. l.name) s.levels) ≡ true
 
 -- one attribute with one value, and nothing to count or to leave out
 pub record IsThin (s : Schema) : Type 0 where
@@ -37,5 +46,6 @@ plain_schema attributes levels = record {
 -- what each schema keeps beside its number of cells
 pub record IsKept (s : Schema) (cells : ℕ) : Type 0 where
   pub limits : IsWithinLimits s
+  pub named : IsNamed s
   pub thin : IsThin s
   pub counted : cells ≡ cell_count s

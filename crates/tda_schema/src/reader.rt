@@ -4,6 +4,7 @@ ghost use Rattle.toml.specs.View.{table_view};
 ghost use Rattle.tda_io.specs.Due.{Gives};
 ghost use Rattle.tda_schema.specs.declared.fault.SchemaFault.TheVariants.{NotYet};
 ghost use Rattle.tda_schema.specs.Typed.{found};
+ghost use Rattle.tda_schema.specs.Names as names;
 ghost use Rattle.tda_schema.specs.Sizes as sizes;
 ghost use Rattle.tda_schema.specs.Read as spec;
 
@@ -82,6 +83,8 @@ fn levels_of(alloc: Global, levels: &[RawLevel<'_>]) -> Result<Vec<Level>, NoMem
 
 // A thin schema, as its text says it.
 fn schema_of(alloc: Global, raw: &RawSchema<'_>) -> Result<Schema, NoMemory>
+    requires named { IsTrue (names.has_names raw.now) }
+    requires distinct { IsTrue (names.is_distinct raw.now) }
     requires sized { IsTrue (sizes.has_sizes raw.now) }
     requires thin { IsTrue (sizes.is_thin raw.now) }
     ensures { IfOk result (λ s. s ≡ spec.schema_of raw.now) }
@@ -95,10 +98,13 @@ fn schema_of(alloc: Global, raw: &RawSchema<'_>) -> Result<Schema, NoMemory>
     })
 }
 
-/// Reads a schema: its text is a TOML document of at most 2^28 bytes.
+/// Reads a schema: a TOML document of at most 2^28 bytes with `version = 1`, a `total`, and the arrays of tables
+/// `attribute` (each a `name` and `values`) and `level` (each a `name`), and no other key but empty `recode`, `zero`
+/// and `query`.
 ///
-/// So far a schema is read that has one attribute with one value, 2 to 7 levels, no recode, no zero row, no query and
-/// the total `1`. Each other text has the fault `NotYet`.
+/// So far there is one attribute with one value, 2 to 7 levels of different names, and the total `1`; a name or value
+/// has 1 to 32 bytes of letters, digits, `_`, `-`, `.`, `+` and starts with a letter or digit. Each other text has the
+/// fault `NotYet`; `NoMemory` where memory ran out.
 pub fn read_schema(alloc: Global, bytes: &[u8]) -> Result<Schema, SchemaFault>
     requires { length bytes.now ≤ 2 ^ 28 }
     ensures { Gives SchemaFault.NoMemory (λ s. s) result (spec.read bytes.now) }

@@ -1,11 +1,13 @@
 // What a schema says, and its readers.
-ghost use Rattle.std.specs.Prelude.{◌≡◌, ◌<◌, ◌≤◌, length, map, position, option_map, Some, slice_get, slice_index, string_bytes, EachIndex};
+ghost use Rattle.std.specs.Prelude.{◌≡◌, ◌<◌, ◌≤◌, true, length, map, position, option_map, Some, slice_get, slice_index, string_bytes, EachIndex};
 ghost use Rattle.std.specs.Str.{bytes_eq};
 ghost use Rattle.tda_model.specs.Cells.{cell_count, values_in, is_possible, kind_of};
 ghost use Rattle.tda_model.specs.Groups.{kind_count};
 ghost use Rattle.tda_model.specs.Sizes.{groups_at, places_at};
 ghost use Rattle.tda_model.specs.Bounds.{HasKinds};
-ghost use Rattle.tda_schema.specs.Readers.{values_of, IsWithinLimits, IsThin};
+ghost use Rattle.tda_io.specs.Texts.{name_test};
+ghost use Rattle.tda_schema.specs.Names.{are_distinct};
+ghost use Rattle.tda_schema.specs.Readers.{values_of, IsWithinLimits};
 
 use std::marker::Model;
 
@@ -87,10 +89,11 @@ impl Schema {
         self.attributes.len()
     }
 
-    /// The name of an attribute.
+    /// The name of an attribute, of 1 to 32 bytes.
     pub fn attribute_name(&self, a: usize) -> &str
         requires { a < length self.now.attributes }
-        ensures { option_map (λ x. x.name) (slice_get self.now.attributes a) ≡ Some result.now }
+        ensures value { option_map (λ x. x.name) (slice_get self.now.attributes a) ≡ Some result.now }
+        ensures name { name_test 32 result.now ≡ true }
     {
         self.attributes[a].name.as_str()
     }
@@ -105,11 +108,12 @@ impl Schema {
         self.attributes[a].values.len()
     }
 
-    /// The text of a value of an attribute.
+    /// The text of a value of an attribute, of 1 to 32 bytes.
     pub fn value_name(&self, a: usize, v: u16) -> &str
         requires attribute { a < length self.now.attributes }
         requires value { v < length (values_of self.now a) }
-        ensures { slice_get (values_of self.now a) v ≡ Some result.now }
+        ensures value { slice_get (values_of self.now a) v ≡ Some result.now }
+        ensures name { name_test 32 result.now ≡ true }
     {
         self.attributes[a].values[usize::from(v)].as_str()
     }
@@ -129,7 +133,6 @@ impl Schema {
     pub fn cells(&self) -> u32
         ensures count { result ≡ cell_count self.now }
         ensures limits { IsWithinLimits self.now }
-        ensures thin { IsThin self.now }
     {
         self.cells
     }
@@ -175,18 +178,20 @@ impl Schema {
         cell < self.cells
     }
 
-    /// How many levels there are: 2 to 7.
+    /// How many levels there are: 2 to 7, of different names.
     pub fn levels(&self) -> usize
         ensures count { result ≡ length self.now.levels }
         ensures limits { IsWithinLimits self.now }
+        ensures distinct { are_distinct (map (λ l. l.name) self.now.levels) ≡ true }
     {
         self.levels.len()
     }
 
-    /// The name of a level.
+    /// The name of a level, of 1 to 32 bytes.
     pub fn level_name(&self, level: usize) -> &str
         requires { level < length self.now.levels }
-        ensures { option_map (λ l. l.name) (slice_get self.now.levels level) ≡ Some result.now }
+        ensures value { option_map (λ l. l.name) (slice_get self.now.levels level) ≡ Some result.now }
+        ensures name { name_test 32 result.now ≡ true }
     {
         self.levels[level].name.as_str()
     }
@@ -205,6 +210,7 @@ impl Schema {
         requires { level < length self.now.levels }
         ensures { result ≡ groups_at self.now level }
     {
+        // What a schema keeps says that it is thin.
         let _ = &self.levels;
         GROUPS
     }
@@ -214,6 +220,7 @@ impl Schema {
         requires { level < length self.now.levels }
         ensures { result ≡ places_at self.now level }
     {
+        // What a schema keeps says that it is thin.
         let _ = &self.levels;
         PLACES
     }

@@ -7,4 +7,4 @@ pub invariant_of-result : goal.invariant_of-result
 invariant_of-result c =
     let attributes : c.in_ok-attributes.attributes.items ≡ c.args.raw.now.attributes = c.in_ok-attributes.ensures ∙ c.deref.ensures.value ∙ ap (λ s. s.attributes) c.raw.view_is in
     let levels : c.in_ok-levels.levels.items ≡ map plain_level c.args.raw.now.levels = c.in_ok-levels.ensures ∙ ap (map plain_level) (c.deref-2.ensures.value ∙ ap (λ s. s.levels) c.raw.view_is) in
-    rw (attributes, levels) (kept c.args.raw.now c.requires.sized c.requires.thin)
+    rw (attributes, levels) (kept c.args.raw.now c.requires.named c.requires.distinct c.requires.sized c.requires.thin)
