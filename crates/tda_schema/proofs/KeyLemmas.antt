@@ -1,6 +1,6 @@
--- A loop that tests each table among the items of an array.
-use Rattle.std.proofs.Common.{◌≡◌, ℕ, Bool, true, false, ◌&&◌, ◌+◌, ◌<◌, List, [], ◌∷◌, length, get_or, drop, String, Global, string_bytes, refl, sym, ap, ◌∙◌}
-use Rattle.std.specs.List.{list_all}
+-- Tests of keys, and a loop that tests each table among the items of an array.
+use Rattle.std.proofs.Common.{◌≡◌, ℕ, Bool, true, false, ◌&&◌, ◌||◌, ◌+◌, ◌<◌, List, [], ◌∷◌, length, get_or, drop, map, String, Global, string_bytes, refl, sym, ap, ◌∙◌}
+use Rattle.std.specs.List.{list_all, list_any}
 use Rattle.std.specs.Map.{keys_of}
 use Rattle.std.specs.Option.{option_map_or}
 use Rattle.toml.specs.Data.{item, Members, as_table}
@@ -9,6 +9,10 @@ use Rattle.toml.specs.declared.value.Value.{Value}
 use Rattle.toml.proofs.Views.{items_view-drop}
 use Rattle.tda_schema.specs.declared.keys.TableKind.{TableKind}
 use Rattle.tda_schema.specs.Keys.{tables_pass, all_known, is_known}
+
+pub list_any-map : {X Y : Type 0} (p : Y → Bool) (f : X → Y) (xs : List X) → list_any p (map f xs) ≡ list_any (λ x. p (f x)) xs
+list_any-map p f [] = refl
+list_any-map p f (x ∷ xs) = ap (λ b. p (f x) || b) (list_any-map p f xs)
 
 -- the keys of the entries of a map
 pub all_known-entries : (kind : TableKind) (es : List (String Global × Value))

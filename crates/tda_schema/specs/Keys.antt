@@ -1,5 +1,6 @@
 -- The keys of the tables of a document.
-use Rattle.std.specs.Prelude.{codes, ℕ, Bool, true, false, ◌&&◌, ◌||◌, List, is_some, option_and_then}
+use Rattle.std.specs.Prelude.{codes, ℕ, Bool, true, ◌&&◌, ◌||◌, List, [], ◌∷◌, is_some, option_and_then}
+use Rattle.std.specs.List.{list_all, list_any}
 use Rattle.std.specs.Option.{option_map_or}
 use Rattle.std.specs.Str.{bytes_eq}
 use Rattle.toml.specs.Data.{Items, no_items, item, Members, no_members, member, get_member, as_array, as_table}
@@ -9,21 +10,21 @@ use Rattle.tda_schema.specs.declared.keys.TableKind.{TableKind}
 use Rattle.tda_schema.specs.declared.keys.TableKind.TheVariants.{Document, Attribute, Recode, Level, Query}
 
 -- the keys that a table has to have
-abbrev pub is_required : TableKind → List ℕ → Bool
-is_required Document k = bytes_eq k (codes "version") || bytes_eq k (codes "total") || bytes_eq k (codes "attribute") || bytes_eq k (codes "level")
-is_required Attribute k = bytes_eq k (codes "name") || bytes_eq k (codes "values")
-is_required Recode k = bytes_eq k (codes "name") || bytes_eq k (codes "of") || bytes_eq k (codes "map")
-is_required Level k = bytes_eq k (codes "name")
-is_required Query k = bytes_eq k (codes "name") || bytes_eq k (codes "by") || bytes_eq k (codes "share")
+abbrev pub required_keys : TableKind → List (List ℕ)
+required_keys Document = codes "version" ∷ codes "total" ∷ codes "attribute" ∷ codes "level" ∷ []
+required_keys Attribute = codes "name" ∷ codes "values" ∷ []
+required_keys Recode = codes "name" ∷ codes "of" ∷ codes "map" ∷ []
+required_keys Level = codes "name" ∷ []
+required_keys Query = codes "name" ∷ codes "by" ∷ codes "share" ∷ []
 
 -- the keys that it may have besides
-abbrev pub is_optional : TableKind → List ℕ → Bool
-is_optional Document k = bytes_eq k (codes "recode") || bytes_eq k (codes "zero")
-is_optional Level k = bytes_eq k (codes "query")
-is_optional _ k = false
+abbrev pub optional_keys : TableKind → List (List ℕ)
+optional_keys Document = codes "recode" ∷ codes "zero" ∷ []
+optional_keys Level = codes "query" ∷ []
+optional_keys _ = []
 
 abbrev pub is_known : TableKind → List ℕ → Bool
-is_known kind k = is_required kind k || is_optional kind k
+is_known kind k = list_any (bytes_eq k) (required_keys kind) || list_any (bytes_eq k) (optional_keys kind)
 
 abbrev pub has : List ℕ → Members → Bool
 has key ms = is_some (get_member key ms)
@@ -33,11 +34,7 @@ all_known kind no_members = true
 all_known kind (member k d ms) = is_known kind k && all_known kind ms
 
 abbrev pub is_complete : TableKind → Members → Bool
-is_complete Document ms = has (codes "version") ms && has (codes "total") ms && has (codes "attribute") ms && has (codes "level") ms
-is_complete Attribute ms = has (codes "name") ms && has (codes "values") ms
-is_complete Recode ms = has (codes "name") ms && has (codes "of") ms && has (codes "map") ms
-is_complete Level ms = has (codes "name") ms
-is_complete Query ms = has (codes "name") ms && has (codes "by") ms && has (codes "share") ms
+is_complete kind ms = list_all (λ k. has k ms) (required_keys kind)
 
 -- what a test asks of a table: that each key is listed, or that no required key is missing
 abbrev pub table_passes : KeyTest → TableKind → Members → Bool

@@ -1,6 +1,7 @@
 // The keys of the tables of a document.
-ghost use Rattle.std.specs.Prelude.{◌≡◌, ◌||◌, codes, string_bytes};
-ghost use Rattle.std.specs.List.{list_all};
+ghost use Rattle.std.specs.Prelude.{◌≡◌, codes, map, string_bytes};
+ghost use Rattle.std.specs.List.{list_all, list_any};
+ghost use Rattle.std.specs.Str.{bytes_eq};
 ghost use Rattle.std.specs.BTreeMap.{keys};
 ghost use Rattle.toml.specs.View.{view, table_view};
 ghost use Rattle.tda_schema.specs.Keys as spec;
@@ -27,35 +28,40 @@ pub(crate) enum TableKind {
     Query,
 }
 
-fn is_required(kind: TableKind, key: &str) -> bool
-    ensures { result ≡ spec.is_required kind key.now }
+// The keys that a table has to have.
+fn required_keys(kind: TableKind) -> &'static [&'static str]
+    ensures { map (λ k. k.now) result.now ≡ spec.required_keys kind }
 {
     match kind {
-        TableKind::Document => key == "version"
-            || key == "total"
-            || key == "attribute"
-            || key == "level",
-        TableKind::Attribute => key == "name" || key == "values",
-        TableKind::Recode => key == "name" || key == "of" || key == "map",
-        TableKind::Level => key == "name",
-        TableKind::Query => key == "name" || key == "by" || key == "share",
+        TableKind::Document => &["version", "total", "attribute", "level"],
+        TableKind::Attribute => &["name", "values"],
+        TableKind::Recode => &["name", "of", "map"],
+        TableKind::Level => &["name"],
+        TableKind::Query => &["name", "by", "share"],
     }
 }
 
-fn is_optional(kind: TableKind, key: &str) -> bool
-    ensures { result ≡ spec.is_optional kind key.now }
+// The keys that it may have besides.
+fn optional_keys(kind: TableKind) -> &'static [&'static str]
+    ensures { map (λ k. k.now) result.now ≡ spec.optional_keys kind }
 {
     match kind {
-        TableKind::Document => key == "recode" || key == "zero",
-        TableKind::Level => key == "query",
-        TableKind::Attribute | TableKind::Recode | TableKind::Query => false,
+        TableKind::Document => &["recode", "zero"],
+        TableKind::Level => &["query"],
+        TableKind::Attribute | TableKind::Recode | TableKind::Query => &[],
     }
+}
+
+fn is_listed(keys: &[&str], key: &str) -> bool
+    ensures { result ≡ list_any (λ k. bytes_eq key.now k.now) keys.now }
+{
+    keys.iter().any(|known| key == *known)
 }
 
 fn is_known(kind: TableKind, key: &str) -> bool
     ensures { result ≡ spec.is_known kind key.now }
 {
-    is_required(kind, key) || is_optional(kind, key)
+    is_listed(required_keys(kind), key) || is_listed(optional_keys(kind), key)
 }
 
 fn keys_are_known(kind: TableKind, table: &Table) -> bool
@@ -76,19 +82,16 @@ fn has(table: &Table, key: &str) -> bool
     get(table, key).is_some()
 }
 
+fn has_each(table: &Table, keys: &[&str]) -> bool
+    ensures { result ≡ list_all (λ k. spec.has k.now (table_view table.now)) keys.now }
+{
+    keys.iter().all(|key| has(table, key))
+}
+
 fn is_complete(kind: TableKind, table: &Table) -> bool
     ensures { result ≡ spec.is_complete kind (table_view table.now) }
 {
-    match kind {
-        TableKind::Document => has(table, "version")
-            && has(table, "total")
-            && has(table, "attribute")
-            && has(table, "level"),
-        TableKind::Attribute => has(table, "name") && has(table, "values"),
-        TableKind::Recode => has(table, "name") && has(table, "of") && has(table, "map"),
-        TableKind::Level => has(table, "name"),
-        TableKind::Query => has(table, "name") && has(table, "by") && has(table, "share"),
-    }
+    has_each(table, required_keys(kind))
 }
 
 fn table_passes(test: KeyTest, kind: TableKind, table: &Table) -> bool
