@@ -1,14 +1,14 @@
 -- What a run leaves tells what the top call answers.
-use Rattle.std.proofs.Common.{◌≡◌, ◌≢◌, ◌≤◌, ◌<◌, ◌⊎◌, ◌↔◌, ◌∙◌, ◌+◌, ◌++◌, ◌∷◌, [], List, ℕ, Bool, true, false, length, take, map, refl, sym, ap, subst, arith, Option, Some, None, option_map, IfSome, inl, inr, Result, Ok, Err, IsTrue, slice_index_or}
+use Rattle.std.proofs.Common.{◌≡◌, ◌≢◌, ◌∙◌, ◌∷◌, [], List, ℕ, refl, sym, ap, subst, Option, Some, None, IfSome, inl, inr, Result, Ok, Err, slice_index_or}
 use Rattle.std.specs.Result.{IfOk}
-use Rattle.tda_io.specs.Outside.{Shelf, Tray, CountsOut}
+use Rattle.tda_io.specs.Outside.{Shelf, Tray}
 use Rattle.tda_io.specs.declared.outside.OutFault.{OutFault}
 use Rattle.tda_io.specs.declared.outside.OutFault.TheVariants as fault_out
-use Rattle.tda_tool.specs.Words.{command_of, form_of, reads_of, writes_of, read_names, fit_form, dash}
+use Rattle.tda_tool.specs.Words.{command_of, form_of, writes_of, read_names, fit_form}
 use Rattle.tda_tool.specs.Due.{Ending, due, due_by, fit_due, words_ending, refused_ending, read_ending, fit_ending, inputs_from, given_by, failing_at}
-use Rattle.tda_tool.specs.Outcome.{is_status, IsSettled, Leaves, LeavesReport, LeavesAll, FitWrote, FileRefused, ReadFailed, AsksPrefix, asks_all, BeginsPrefix, BeginsWhenDue, whole, with_all}
+use Rattle.tda_tool.specs.Outcome.{IsSettled, Leaves, LeavesReport, LeavesAll, FitWrote, FileRefused, ReadFailed, BeginsPrefix, BeginsWhenDue}
 use Rattle.tda_tool.specs.Reading.{name_of, number_of}
-use Rattle.tda_tool.specs.Answer.{ending_of, SuitsWords, IsDue, IsFitted, Asks, files_of, outputs_of, targets_of, tables_path, CountsAnswer, CountsRun, status_of}
+use Rattle.tda_tool.specs.Answer.{ending_of, SuitsWords, IsDue, IsFitted, Asks, files_of, targets_of, tables_path, CountsAnswer, status_of}
 use Rattle.tda_tool.specs.declared.words.Command.{Command}
 use Rattle.tda_tool.specs.declared.words.Command.TheVariants.{Fit}
 use Rattle.tda_tool.specs.declared.inputs.File.{File}

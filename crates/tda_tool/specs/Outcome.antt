@@ -1,12 +1,12 @@
 -- What a run of the program asked for, and what it leaves in the outbox.
-use Rattle.std.specs.Prelude.{◌≡◌, ◌≢◌, ◌<◌, ◌≤◌, ◌⊎◌, ◌+◌, ◌==◌, ℕ, Bool, true, false, if◌then◌else◌, List, [], ◌∷◌, ◌++◌, length, take, map, slice_index_or, Option, Some, None, IfSome, option_map, Result, Ok, Err}
+use Rattle.std.specs.Prelude.{◌≡◌, ◌≢◌, ◌<◌, ◌≤◌, ◌⊎◌, ◌+◌, ◌==◌, ℕ, Bool, true, if◌then◌else◌, List, [], ◌∷◌, ◌++◌, length, take, map, slice_index_or, Option, IfSome, option_map, Ok}
 use Rattle.std.specs.List.{list_any, zip}
 use Rattle.tda_io.specs.Outside.{Shelf, Tray, Written}
 use Rattle.tda_model.specs.Tables.{Tables}
 use Rattle.tda_model.specs.TablesText.{tables_text}
 use Rattle.tda_tool.specs.Attained.{Inputs, IsAttained}
 use Rattle.tda_tool.specs.Words.{reads_of, writes_of, read_names, dash}
-use Rattle.tda_tool.specs.Due.{Ending, inputs_from, given_by, failing_at, due_by, due, fit_ending, read_ending, refused_ending}
+use Rattle.tda_tool.specs.Due.{inputs_from, given_by, failing_at, due_by, due, fit_ending, read_ending, refused_ending}
 
 -- a file with all its bytes, ended
 abbrev pub whole : List ℕ → List ℕ → Written
