@@ -1,8 +1,8 @@
 #!/usr/bin/env python3
 """Runs `tda fit` on spines of growing size over five levels.
 
-Prints for each size the seconds, the ratio to the former size, and the peak memory, above what the program
-needs on the smallest release of all.  Usage: bench/fit.py [PROGRAM]   (made by ./tda: crates/tda/out/tda)
+Prints for each size the seconds, the ratio to the former size of the seconds above what the smallest release of all
+needs, and the peak memory.  Usage: bench/fit.py [PROGRAM]   (made by ./tda: crates/tda/out/tda)
 """
 import os
 import pathlib
@@ -45,12 +45,12 @@ def write_release(folder, units):
 
 
 def run(program, folder):
-    """Seconds (the best of three) and the peak memory in MiB of one run."""
+    """Seconds (the best of seven) and the peak memory in MiB of one run."""
     words = ["fit"]
     for name, file in [("schema", "schema.toml"), ("spine", "spine.csv"), ("totals", "totals.csv"), ("tables", "tables.csv")]:
         words += [f"--{name}", str(folder / file)]
     best, peak = None, 0
-    for _ in range(3):
+    for _ in range(7):
         begin = time.perf_counter()
         child = subprocess.Popen([program] + words, stdout=subprocess.PIPE)
         report = child.stdout.read().decode()

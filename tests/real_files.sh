@@ -37,7 +37,8 @@ fit_to_full_device() {
   fit "$data/schema.toml" "$data/spine.csv" "$data/totals.csv" "$folder/other.csv" >/dev/full
 }
 
-try "a release" 0 "ok fit fits=8" fit "$data/schema.toml" "$data/spine.csv" "$data/totals.csv" "$folder/tables.csv"
+printf '%3000s' x >"$folder/tables.csv"
+try "a release, over a longer file" 0 "ok fit fits=11" fit "$data/schema.toml" "$data/spine.csv" "$data/totals.csv" "$folder/tables.csv"
 try "its tables" 0 "unit,cell,count
 US,0,465
 North,0,120
@@ -54,7 +55,7 @@ try "a missing second file" 4 "read spine" fit "$data/schema.toml" "$folder/none
 try "a folder in place of a file" 4 "read totals" fit "$data/schema.toml" "$data/spine.csv" "$folder" "$folder/new.csv"
 try "a file that isn't accepted" 3 "refused spine NotYet" fit "$data/schema.toml" "$data/totals.csv" "$data/totals.csv" "$folder/new.csv"
 try "a missing file after a refused one" 3 "refused schema NotYet" fit "$data/spine.csv" "$folder/none" "$folder/none" "$folder/new.csv"
-try "nothing but the report was begun" 1 - ls "$folder/new.csv"
+try "nothing but the report was begun" 1 - test -e "$folder/new.csv"
 try "an output in a folder that isn't there" 5 - fit "$data/schema.toml" "$data/spine.csv" "$data/totals.csv" "$folder/none/tables.csv"
 try "a folder in place of an output" 5 - fit "$data/schema.toml" "$data/spine.csv" "$data/totals.csv" "$folder"
 

@@ -1,5 +1,5 @@
 -- Classes of a query and groups of a level, as lists of possible cells in order.
-use Rattle.std.specs.Prelude.{ℕ, ◌⊎◌, Bool, true, ◌&&◌, List, [], ◌∷◌, ◌++◌, length, slice_get, filter, map, ◌==◌, nat_lt, not, Some, None, All, Contains}
+use Rattle.std.specs.Prelude.{ℕ, ◌⊎◌, Bool, List, [], ◌∷◌, ◌++◌, length, slice_get, filter, map, ◌==◌, nat_lt, not, Some, None, All, Contains}
 use Rattle.std.specs.List.{list_all, range_with_len, flat_map}
 use Rattle.std.specs.Str.{bytes_eq}
 use Rattle.tda_model.specs.Schema.{Entry, Query, Level, Schema, Attribute_values, Recode_labels}
@@ -48,7 +48,7 @@ group_sets s l =
 abbrev pub IsGroup : Schema → Level → List ℕ → Type 0
 IsGroup s l cells = Contains (group_sets s l) cells
 
--- each set once, where it stands first
+-- each set once, where it stands first (sets of cells are compared as their lists)
 abbrev pub each_once : List (List ℕ) → List (List ℕ)
 each_once [] = []
 each_once (xs ∷ rest) = xs ∷ filter (λ ys. not (bytes_eq xs ys)) (each_once rest)

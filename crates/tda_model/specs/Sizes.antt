@@ -1,4 +1,4 @@
--- How many places and fits a release has, how large its fits are, and the limits.
+-- How many places a release has, how large its fits are, and the limits.
 use Rattle.std.specs.Prelude.{ℕ, ◌+◌, ◌*◌, ◌^◌, ◌≤◌, Option, Some, None, length, sum_by, slice_get}
 use Rattle.tda_model.specs.Schema.{Level, Schema}
 use Rattle.tda_model.specs.Cells.{cell_count, possible_cells}

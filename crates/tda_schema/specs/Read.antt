@@ -3,7 +3,7 @@ use Rattle.std.specs.Prelude.{ℕ, not, List, [], map, Option, None, Result, Ok,
 use Rattle.std.specs.Str.{is_utf8}
 use Rattle.toml.specs.Data.{Members}
 use Rattle.toml.specs.Parse.{parse_document}
-use Rattle.tda_io.specs.Due.{◌>>=◌, unless}
+use Rattle.tda_io.specs.Due.{◌>>=◌, fault_if}
 use Rattle.tda_model.specs.Schema.{Level, Schema}
 use Rattle.tda_schema.specs.declared.fault.SchemaFault.{SchemaFault}
 use Rattle.tda_schema.specs.declared.fault.SchemaFault.TheVariants.{NotYet}
@@ -22,8 +22,8 @@ document_of bytes = if is_utf8 bytes then parse_document bytes else None
 -- a document as a written schema: its keys, and the types of its values
 abbrev pub raw_of : Members → Result RawSchema SchemaFault
 raw_of document = do
-  _ ← unless (not (document_passes Known document)) NotYet
-  _ ← unless (not (document_passes Complete document)) NotYet
+  _ ← fault_if (not (document_passes Known document)) NotYet
+  _ ← fault_if (not (document_passes Complete document)) NotYet
   typed document
 
 abbrev pub plain_level : RawLevel → Level
@@ -36,10 +36,10 @@ schema_of raw = plain_schema raw.attributes (map plain_level raw.levels)
 -- a written schema as a schema, where it is one that is read yet
 abbrev pub judged : RawSchema → Result Schema SchemaFault
 judged raw = do
-  _ ← unless (not (has_names raw)) NotYet
-  _ ← unless (not (is_distinct raw)) NotYet
-  _ ← unless (not (has_sizes raw)) NotYet
-  _ ← unless (not (is_thin raw)) NotYet
+  _ ← fault_if (not (has_names raw)) NotYet
+  _ ← fault_if (not (is_distinct raw)) NotYet
+  _ ← fault_if (not (has_sizes raw)) NotYet
+  _ ← fault_if (not (is_thin raw)) NotYet
   Ok (schema_of raw)
 
 -- the schema that the bytes hold, or the fault

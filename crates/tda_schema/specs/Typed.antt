@@ -1,7 +1,7 @@
 -- The values of a document of the stated types.
 use Rattle.std.specs.Prelude.{codes, ℕ, ℤ, pos, negsuc, ◌==◌, Bool, false, not, List, [], ◌∷◌, Option, Some, None, Result, Ok, Err}
 use Rattle.toml.specs.Data.{Data, Items, no_items, item, Members, no_members, member, get_member, as_str, as_integer, as_array, as_table}
-use Rattle.tda_io.specs.Due.{◌>>=◌, unless}
+use Rattle.tda_io.specs.Due.{◌>>=◌, fault_if}
 use Rattle.tda_model.specs.Schema.{Attribute}
 use Rattle.tda_schema.specs.declared.fault.SchemaFault.{SchemaFault}
 use Rattle.tda_schema.specs.declared.fault.SchemaFault.TheVariants.{NotYet}
@@ -48,7 +48,7 @@ is_one None = false
 
 -- the one version of the format: the integer 1
 abbrev pub version_of : Data → Result (Unit {0}) SchemaFault
-version_of d = unless (not (is_one (as_integer d))) NotYet
+version_of d = fault_if (not (is_one (as_integer d))) NotYet
 
 abbrev pub attribute_of : Data → Result Attribute SchemaFault
 attribute_of d = do

@@ -12,6 +12,7 @@ use Rattle.std.proofs.lemmas.List.Folds.{list_any_at}
 use Rattle.std.proofs.lemmas.List.FromFn.{length-range_with_len, get_or-range_with_len}
 use Rattle.std.proofs.lemmas.Option.{slice_get-map, slice_get-get_or}
 use Rattle.tda_io.specs.Csv.{Row, first_fault}
+use Rattle.tda_io.specs.Texts.{name_test}
 use Rattle.tda_model.specs.Schema.{Schema, Level}
 use Rattle.tda_model.specs.Cells.{cell_count}
 use Rattle.tda_model.specs.Spine.{Spine, SpineUnit, IsUnit, IsTree, HasParent, level_of, parent_of, code_of, nation_of, units_at, is_at, is_child, children_of, unit_numbers}
@@ -109,6 +110,11 @@ module _ (s : Schema) (rows : List Row) where
               let above : level_of sp p.0 ≡ h.0 = level_is p.0 there ∙ ap (λ o. unwrap_or o 0) p.2 in
               inr (p.0, record { here = omega (arith, many, there); named = parent_is u here ∙ p.1; above = omega (arith, level, above) })
         ]
+
+    pub codes_fit : (u : ℕ) → IsUnit sp u → name_test 16 (code_of sp u) ≡ true
+    codes_fit u unit =
+        let here : u < length rows = omega (arith, many, unit) in
+        rw (code_is u here) (not-false _ ((each_fine s rows none u here).code))
 
     row_level : (u : ℕ) → u < length rows → (unit_of s rows (get_or rows u [])).level < length s.levels
     row_level u here =
@@ -247,6 +253,7 @@ sound s rows deep shallow rows_fine none =
     record {
       tree = tree_of sp (placed s rows rows_fine) fine.nation deep (level_within s rows rows_fine) fine.children;
       distinct = codes_differ s rows rows_fine;
+      coded = codes_fit s rows rows_fine;
       few = at_most (length sp.units) units_limit (or-false _ _ few.0).0;
       shallow = shallow;
     }

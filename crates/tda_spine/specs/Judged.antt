@@ -47,7 +47,7 @@ has_too_many s sp =
 abbrev pub is_too_large : FitSize → Bool
 is_too_large size = nat_lt nodes_limit size.nodes || nat_lt arcs_limit size.arcs
 
--- the fit of a unit's children is
+-- the unit stands above the last level, and the fit of its children is too large
 abbrev pub has_large_split : Schema → Spine → ℕ → Bool
 has_large_split s sp u = is_inner sp u && is_too_large (fit_size s sp (Some u))
 

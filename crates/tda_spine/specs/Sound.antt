@@ -1,17 +1,19 @@
 -- What an accepted spine keeps, and its lists.
-use Rattle.std.specs.Prelude.{ℕ, ◌≡◌, ◌<◌, ◌≤◌, ◌^◌, length, List, map, [], ◌∷◌, ◌++◌, slice_index_or, Option, position, if◌then◌else◌}
+use Rattle.std.specs.Prelude.{ℕ, true, ◌≡◌, ◌<◌, ◌≤◌, ◌^◌, length, List, map, [], ◌∷◌, ◌++◌, slice_index_or, Option, position, if◌then◌else◌}
 use Rattle.std.specs.List.{range_with_len}
 use Rattle.std.specs.Str.{bytes_eq}
+use Rattle.tda_io.specs.Texts.{name_test}
 use Rattle.tda_model.specs.Spine.{Spine, SpineUnit, IsUnit, IsTree, nation_of, code_of, unit_numbers, is_over, children_of, units_at, blocks_of}
 
 -- the spine of these units
 abbrev pub spine_of : ℕ → List SpineUnit → Spine
 spine_of depth units = record { depth = depth; units = units }
 
--- a tree of few units, no two of one code
+-- a tree of few units with codes of 1 to 16 bytes, no two of one code
 pub record IsSound (sp : Spine) : Type 0 where
   pub tree : IsTree sp (nation_of sp)
   pub distinct : (u v : ℕ) → u < v → IsUnit sp v → code_of sp u ≡ code_of sp v → ⊥
+  pub coded : (u : ℕ) → IsUnit sp u → name_test 16 (code_of sp u) ≡ true
   pub few : length sp.units ≤ 2 ^ 17
   pub shallow : sp.depth ≤ 7
 

@@ -12,6 +12,7 @@ pub enum SpineFault {
     /// The text is no spine of the schema, or one that is too large.
     #[error("not a spine that is accepted yet")]
     NotYet,
+    /// There was not enough memory.
     #[error("out of memory")]
     NoMemory,
 }

@@ -72,8 +72,9 @@ fn judged(alloc: Global, schema: &Schema, rows: &Rows) -> Result<Spine, SpineFau
 /// units in order, each with its code, the name of its level and the code of its parent, which the nation alone lacks.
 /// `NotYet` where the text is no spine: a row has another width; the header is another; a first field is no unit code,
 /// or that of an earlier row; a parent is no row's code; a level is no level's name, or not the one below the parent's;
-/// there is not exactly one nation; a unit above the last level has no child; or there are too many units, counts or
-/// places, or a fit is too large.
+/// there is not exactly one nation; a unit above the last level has no child; there are more than 131,072 units,
+/// 4,194,304 units times cells or 2,097,152 places; or a fit has more than 2,048 nodes or 65,536 arcs. `NoMemory` where
+/// memory ran out.
 pub fn read_spine(alloc: Global, schema: &Schema, bytes: &[u8]) -> Result<Spine, SpineFault>
     requires { length bytes.now ≤ 2 ^ 28 }
     ensures gives { Gives SpineFault.NoMemory (λ spine. spine) result (spec.read schema.now bytes.now) }

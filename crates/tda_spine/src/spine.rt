@@ -1,5 +1,6 @@
 // An accepted spine and its readers.
-ghost use Rattle.std.specs.Prelude.{◌≡◌, ◌<◌, ◌≤◌, ◌^◌, ℕ, List, length, map, IfOk, IfSome, IfNone, IsNone, ◌↔◌};
+ghost use Rattle.std.specs.Prelude.{◌≡◌, ◌<◌, ◌≤◌, ◌^◌, ℕ, List, length, map, IfOk, IfSome, IfNone, IsNone, true, ◌↔◌};
+ghost use Rattle.tda_io.specs.Texts.{name_test};
 ghost use Rattle.tda_model.specs.Spine.{IsUnit, level_of, parent_of, code_of, children_of, blocks_of, units_at, nation_of, parents_of};
 ghost use Rattle.tda_spine.specs.Sound.{spine_of, IsSound, unit_named};
 
@@ -68,10 +69,12 @@ impl Spine {
         self.units.len() as u32
     }
 
-    /// The code of a unit, as the file writes it.
+    /// The code of a unit, as the file writes it: 1 to 16 letters, digits, `_`, `-`, `.` and `+`, the first a letter or
+    /// a digit.
     pub fn code(&self, unit: u32) -> &str
         requires { IsUnit self.now unit }
-        ensures { result.now ≡ code_of self.now unit }
+        ensures code { result.now ≡ code_of self.now unit }
+        ensures coded { name_test 16 result.now ≡ true }
     {
         let unit = &self.units[unit as usize];
         unit.code.as_str()
