@@ -27,7 +27,7 @@ returns-in_default t c =
     let state : level_of sp c.args.unit ≡ 1 = elim c.in_default.branch [
       | in_default-via-in-Some+else-level-gt1 w ↦ omega (arith, w.level.ensures, w.if-level-gt1, c.requires.below)
       | in_default-via-in_default w ↦
-        let up = c.requires.sound.tree.parent c.args.unit c.requires.unit c.requires.below in
-        absurd (w.in_default.not-Some up.0 (c.parent.ensures.value ∙ up.1.named))
+          let up = c.requires.sound.tree.parent c.args.unit c.requires.unit c.requires.below in
+          absurd (w.in_default.not-Some up.0 (c.parent.ensures.value ∙ up.1.named))
     ] in
     c.get.ensures ∙ sym (ap (λ l. plain_at sp c.args.totals.now l c.args.unit) state)
