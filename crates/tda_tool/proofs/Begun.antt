@@ -1,11 +1,11 @@
 -- Names that `begin` was asked for, one write after the other.
-use Rattle.std.proofs.Common.{◌≡◌, ◌≢◌, ◌≤◌, ◌∙◌, ◌++◌, ◌∷◌, [], List, ℕ, zero, suc, Bool, true, false, length, take, refl, sym, ap, arith, Option, Some, None, option_map, inl, inr, append_assoc, if◌then◌else◌, Result, Ok, Err, IfSome}
+use Rattle.std.proofs.Common.{◌≡◌, ◌∙◌, ◌++◌, ◌∷◌, [], List, ℕ, zero, suc, Bool, true, false, take, refl, sym, ap, arith, Option, Some, None, option_map, inl, inr, append_assoc, if◌then◌else◌, Result, Ok, Err}
 use Rattle.std.specs.Result.{OnErr, OnOk}
-use Rattle.std.proofs.lemmas.List.{append-nil, take_all}
-use Rattle.tda_io.specs.Outside.{Tray, IsNew, refuses}
+use Rattle.std.proofs.lemmas.List.{append-nil}
+use Rattle.tda_io.specs.Outside.{Tray, refuses}
 use Rattle.tda_io.specs.declared.outside.OutFault.{OutFault}
 use Rattle.tda_tool.specs.Words.{dash}
-use Rattle.tda_tool.specs.Outcome.{whole, with_last, IsEmpty, AsksBegin, BeginsPrefix}
+use Rattle.tda_tool.specs.Outcome.{whole, with_last, AsksBegin, BeginsPrefix}
 use Rattle.tda_tool.specs.Output.{part, LeavesPart, BeginsFirst}
 
 asks_none : (old new : Option Tray) → new ≡ old → AsksBegin [] old new

@@ -1,5 +1,5 @@
 -- Calls of an outbox, one after the other, on one name.
-use Rattle.std.proofs.Common.{◌≡◌, ◌≤◌, ◌<◌, ◌++◌, ◌∷◌, [], List, ℕ, Bool, true, false, length, take, refl, sym, ap, arith, ◌∙◌, Option, Some, None, IfSome, option_map, inl, inr, ◌≢◌, Result, Ok, Err}
+use Rattle.std.proofs.Common.{◌≡◌, ◌++◌, ◌∷◌, [], List, ℕ, true, false, length, take, refl, sym, ap, arith, ◌∙◌, Option, Some, None, IfSome, option_map, inl, inr, ◌≢◌, Result, Ok, Err}
 use Rattle.std.specs.Str.{bytes_eq}
 use Rattle.std.specs.Result.{OnErr, OnOk, IsErr}
 use Rattle.std.proofs.lemmas.Bool.{cases_Bool}

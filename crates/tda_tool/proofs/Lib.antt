@@ -13,3 +13,4 @@ pub mod OneCellAttained
 pub mod OneCellText
 pub mod PlainCounts
 pub mod PlainText
+pub mod Names

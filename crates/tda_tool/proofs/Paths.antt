@@ -4,7 +4,7 @@ use Rattle.std.specs.Str.{bytes_eq}
 use Rattle.std.specs.List.{list_all}
 use Rattle.tda_tool.specs.declared.words.Command.{Command}
 use Rattle.tda_tool.specs.declared.words.Command.TheVariants.{Fit}
-use Rattle.tda_tool.specs.Words.{dash, fit_form, form_of, pairs_of, pairs_after, value_in, values_in, is_free, has_names, has_values, has_form, command_of, reads_of, writes_of}
+use Rattle.tda_tool.specs.Words.{dash, fit_form, form_of, pairs_of, pairs_after, value_in, values_in, is_free, has_values, has_form, command_of, writes_of}
 use Rattle.tda_tool.specs.Answer.{tables_path}
 use Rattle.tda_tool.proofs.Files.{same_name}
 

@@ -1,14 +1,14 @@
 -- What a run leaves tells what the top call answers.
-use Rattle.std.proofs.Common.{◌≡◌, ◌≢◌, ◌≤◌, ◌<◌, ◌⊎◌, ◌↔◌, ◌∙◌, ◌+◌, ◌++◌, ◌∷◌, [], List, ℕ, Bool, true, false, length, take, map, refl, sym, ap, subst, arith, Option, Some, None, option_map, IfSome, inl, inr, Result, Ok, Err, IsTrue, slice_index_or}
+use Rattle.std.proofs.Common.{◌≡◌, ◌≢◌, ◌∙◌, ◌∷◌, [], List, ℕ, refl, sym, ap, subst, Option, Some, None, IfSome, inl, inr, Result, Ok, Err, slice_index_or}
 use Rattle.std.specs.Result.{IfOk}
-use Rattle.tda_io.specs.Outside.{Shelf, Tray, CountsOut}
+use Rattle.tda_io.specs.Outside.{Shelf, Tray}
 use Rattle.tda_io.specs.declared.outside.OutFault.{OutFault}
 use Rattle.tda_io.specs.declared.outside.OutFault.TheVariants as fault_out
-use Rattle.tda_tool.specs.Words.{command_of, reads_of, writes_of, fit_form, dash}
-use Rattle.tda_tool.specs.Due.{Ending, due, fit_due, words_ending, refused_ending, read_ending, fit_ending, inputs_from, given_by}
-use Rattle.tda_tool.specs.Outcome.{is_status, IsSettled, Leaves, LeavesReport, LeavesAll, FitWrote, FileRefused, ReadFailed, AsksPrefix, asks_all, BeginsPrefix, BeginsWhenDue, whole, with_all}
+use Rattle.tda_tool.specs.Words.{command_of, form_of, writes_of, read_names, fit_form}
+use Rattle.tda_tool.specs.Due.{Ending, due, due_by, fit_due, words_ending, refused_ending, read_ending, fit_ending, inputs_from, given_by, failing_at}
+use Rattle.tda_tool.specs.Outcome.{IsSettled, Leaves, LeavesReport, LeavesAll, FitWrote, FileRefused, ReadFailed, BeginsPrefix, BeginsWhenDue}
 use Rattle.tda_tool.specs.Reading.{name_of, number_of}
-use Rattle.tda_tool.specs.Answer.{ending_of, SuitsWords, IsDue, IsFitted, Asks, files_of, outputs_of, targets_of, tables_path, CountsAnswer, CountsRun, status_of}
+use Rattle.tda_tool.specs.Answer.{ending_of, SuitsWords, IsDue, IsFitted, Asks, files_of, targets_of, tables_path, CountsAnswer, status_of}
 use Rattle.tda_tool.specs.declared.words.Command.{Command}
 use Rattle.tda_tool.specs.declared.words.Command.TheVariants.{Fit}
 use Rattle.tda_tool.specs.declared.inputs.File.{File}
@@ -24,20 +24,23 @@ use Rattle.tda_tool.proofs.Reading.{file_within}
 abbrev Run : Type 0
 Run = Result Answer OutFault
 
-abbrev due_by : List (List ℕ) → (List ℕ → Option (List ℕ)) → Option Command → Ending
-due_by words holds None = words_ending
-due_by words holds (Some Fit) = fit_due (inputs_from (given_by words holds))
+abbrev ending_by : (ℕ → Option (List ℕ)) → Option Command → Ending
+ending_by given None = words_ending
+ending_by given (Some Fit) = fit_due (inputs_from given)
 
 -- what is due
 due_words : (words : List (List ℕ)) (holds : List ℕ → Option (List ℕ)) → command_of words ≡ None → due words holds ≡ words_ending
-due_words words holds is = ap (due_by words holds) is
+due_words words holds is = ap (ending_by (given_by words holds)) is
+
+due_stop : (words : List (List ℕ)) (given : ℕ → Option (List ℕ)) (e : Ending) → command_of words ≡ Some Fit → inputs_from given ≡ Err e → due_by words given ≡ e
+due_stop words given e is stops = ap (ending_by given) is ∙ ap fit_due stops
 
 due_refused : (words : List (List ℕ)) (holds : List ℕ → Option (List ℕ)) (f : File) → command_of words ≡ Some Fit
     → inputs_from (given_by words holds) ≡ Err (refused_ending (name_of f)) → due words holds ≡ refused_ending (name_of f)
-due_refused words holds f is stops = ap (due_by words holds) is ∙ ap fit_due stops
+due_refused words holds f is stops = due_stop words (given_by words holds) _ is stops
 
 due_fit : (words : List (List ℕ)) (holds : List ℕ → Option (List ℕ)) (r : Fitted) → command_of words ≡ Some Fit → (fitted : IsFitted words holds r) → due words holds ≡ fit_ending fitted.inputs.spine
-due_fit words holds r is fitted = ap (due_by words holds) is ∙ ap fit_due fitted.accepted
+due_fit words holds r is fitted = ap (ending_by (given_by words holds)) is ∙ ap fit_due fitted.accepted
 
 pub settled : (words : List (List ℕ)) (shelf : Option Shelf) (r : Run) → IfOk r (SuitsWords words) → IfOk r (λ a. IfSome shelf (λ s. IsDue words s.holds a))
     → IsSettled (status_of r) → IfSome shelf (λ s. (due words s.holds).status ≡ status_of r)
@@ -75,14 +78,14 @@ wrote words holds r old new fitted left = record {
 }
 
 pub fit_wrote : (words : List (List ℕ)) (shelf : Option Shelf) (r : Run) (old new : Option Tray) → IfOk r (λ a. IfSome shelf (λ s. IsDue words s.holds a))
-    → IfOk r (λ a. Leaves (files_of words a) old new) → status_of r ≡ 0 → IfSome shelf (λ s. FitWrote words s.holds old new)
-fit_wrote words None r old new is left done = tt
-fit_wrote words (Some s) (Ok answer.Words) old new is left done = cc done
-fit_wrote words (Some s) (Ok (answer.Refused f)) old new is left done = cc done
-fit_wrote words (Some s) (Ok (answer.Read f)) old new is left done = cc done
-fit_wrote words (Some s) (Ok (answer.Fit r)) old new is left done = wrote words s.holds r old new is left
-fit_wrote words (Some s) (Err fault_out.Failed) old new is left done = cc done
-fit_wrote words (Some s) (Err fault_out.NoMemory) old new is left done = cc done
+    → IfOk r (λ a. Leaves (files_of words a) old new) → status_of r ≡ 0 → command_of words ≡ Some Fit → IfSome shelf (λ s. FitWrote words s.holds old new)
+fit_wrote words None r old new is left done fit = tt
+fit_wrote words (Some s) (Ok answer.Words) old new is left done fit = cc done
+fit_wrote words (Some s) (Ok (answer.Refused f)) old new is left done fit = cc done
+fit_wrote words (Some s) (Ok (answer.Read f)) old new is left done fit = cc done
+fit_wrote words (Some s) (Ok (answer.Fit r)) old new is left done fit = wrote words s.holds r old new is left
+fit_wrote words (Some s) (Err fault_out.Failed) old new is left done fit = cc done
+fit_wrote words (Some s) (Err fault_out.NoMemory) old new is left done fit = cc done
 
 wrote_all : (words : List (List ℕ)) (r : Fitted) (old new : Option Tray) → command_of words ≡ Some Fit → Leaves (files_of words (answer.Fit r)) old new → LeavesAll (writes_of words) old new
 wrote_all words r old new is left =
@@ -98,10 +101,22 @@ all_written words (Err fault_out.Failed) old new suits left done = cc done
 all_written words (Err fault_out.NoMemory) old new suits left done = cc done
 
 -- the name of a file by its place
-name_at : (f : File) → name_of f ≡ slice_index_or fit_form.reads (number_of f) []
-name_at file.Schema = refl
-name_at file.Spine = refl
-name_at file.Totals = refl
+fit_name_at : (f : File) → name_of f ≡ slice_index_or fit_form.reads (number_of f) []
+fit_name_at file.Schema = refl
+fit_name_at file.Spine = refl
+fit_name_at file.Totals = refl
+
+abbrev names_by : Option Command → List (List ℕ)
+names_by None = []
+names_by (Some c) = (form_of c).reads
+
+name_at : (words : List (List ℕ)) (f : File) → command_of words ≡ Some Fit → name_of f ≡ slice_index_or (read_names words) (number_of f) []
+name_at words f is = fit_name_at f ∙ ap (λ names. slice_index_or names (number_of f) []) (sym (ap names_by is))
+
+refused_at : (words : List (List ℕ)) (f : File) (shelf : Option Shelf) → command_of words ≡ Some Fit
+    → IfSome shelf (λ s. IsDue words s.holds (answer.Refused f)) → IfSome shelf (λ s. due words s.holds ≡ refused_ending (name_of f))
+refused_at words f None suits is = tt
+refused_at words f (Some s) suits is = due_refused words s.holds f suits is
 
 refused_file : (words : List (List ℕ)) (f : File) (shelf shelf_new : Option Shelf) (old new : Option Tray) → SuitsWords words (answer.Refused f)
     → IfSome shelf (λ s. IsDue words s.holds (answer.Refused f)) → Asks words shelf shelf_new (answer.Refused f) → Leaves (files_of words (answer.Refused f)) old new → FileRefused words shelf shelf_new old new
@@ -109,8 +124,8 @@ refused_file words f shelf shelf_new old new suits is asked left = record {
   file = number_of f;
   within = file_within words f suits;
   asked = asked;
-  refused = rw (name_at f) at is;
-  written = rw (name_at f) at left;
+  refused = subst (λ name. IfSome shelf (λ s. due words s.holds ≡ refused_ending name)) (name_at words f suits) (refused_at words f shelf suits is);
+  written = subst (λ name. LeavesReport (refused_ending name).report old new) (name_at words f suits) left;
 }
 
 pub refused : (words : List (List ℕ)) (r : Run) (shelf shelf_new : Option Shelf) (old new : Option Tray) → IfOk r (SuitsWords words)
@@ -123,14 +138,19 @@ refused words (Ok (answer.Fit r)) shelf shelf_new old new suits is asked left th
 refused words (Err fault_out.Failed) shelf shelf_new old new suits is asked left three = cc three
 refused words (Err fault_out.NoMemory) shelf shelf_new old new suits is asked left three = cc three
 
+read_at : (words : List (List ℕ)) (f : File) (shelf : Option Shelf) → command_of words ≡ Some Fit
+    → IfSome shelf (λ s. IsDue words s.holds (answer.Read f)) → IfSome shelf (λ s. due_by words (failing_at (number_of f) (given_by words s.holds)) ≡ read_ending (name_of f))
+read_at words f None suits is = tt
+read_at words f (Some s) suits is = due_stop words (failing_at (number_of f) (given_by words s.holds)) _ suits is
+
 read_file : (words : List (List ℕ)) (f : File) (shelf shelf_new : Option Shelf) (old new : Option Tray) → SuitsWords words (answer.Read f)
     → IfSome shelf (λ s. IsDue words s.holds (answer.Read f)) → Asks words shelf shelf_new (answer.Read f) → Leaves (files_of words (answer.Read f)) old new → ReadFailed words shelf shelf_new old new
 read_file words f shelf shelf_new old new suits is asked left = record {
   file = number_of f;
   within = file_within words f suits;
   asked = asked;
-  accepted = rw (name_at f) at is;
-  written = rw (name_at f) at left;
+  accepted = subst (λ name. IfSome shelf (λ s. due_by words (failing_at (number_of f) (given_by words s.holds)) ≡ read_ending name)) (name_at words f suits) (read_at words f shelf suits is);
+  written = subst (λ name. LeavesReport (read_ending name).report old new) (name_at words f suits) left;
 }
 
 pub failed_file : (words : List (List ℕ)) (r : Run) (shelf shelf_new : Option Shelf) (old new : Option Tray) → IfOk r (SuitsWords words)

@@ -1,5 +1,5 @@
 -- Files that are asked for one after the other.
-use Rattle.std.proofs.Common.{◌≡◌, ◌<◌, ◌≤◌, ◌+◌, ◌∙◌, ◌++◌, ◌∷◌, [], ℕ, List, length, take, refl, sym, ap, arith, rules, inl, inr, Option, Some, None, option_map, slice_index_or, Result, Ok, Err, append_assoc}
+use Rattle.std.proofs.Common.{◌≡◌, ◌<◌, ◌≤◌, ◌+◌, ◌∙◌, ◌++◌, ◌∷◌, [], ℕ, List, length, take, refl, sym, ap, arith, inl, inr, Option, Some, None, option_map, slice_index_or, Result, Ok, Err, append_assoc}
 use Rattle.std.specs.Result.{IsErr, IsErrAnd, IfOk}
 use Rattle.std.proofs.lemmas.List.{append-nil, take_more, take_all}
 use Rattle.tda_io.specs.Outside.{Shelf, asks}

@@ -1,5 +1,5 @@
 -- Counts of values.
-use Rattle.std.proofs.Common.{◌≡◌, ◌∷◌, [], List, ℕ, Bool, map, count_by, fold, refl}
+use Rattle.std.proofs.Common.{◌≡◌, ◌∷◌, [], List, Bool, map, count_by, fold, refl}
 
 -- a fold of values
 fold-map : {X A : Type 0} (g : A → X → A) → {Y : Type 0} (h : Y → X) (a : A) (ys : List Y) → fold g a (map h ys) ≡ fold (λ b y. g b (h y)) a ys

@@ -1,7 +1,7 @@
 -- What an answer says, which files it leaves, and when it is due.
-use Rattle.std.specs.Prelude.{◌≡◌, ◌<◌, ◌≤◌, ℕ, ◌+◌, codes, List, [], ◌∷◌, ◌++◌, take, Option, Some, None, IfSome, option_map, slice_index_or, Result, Ok, Err}
+use Rattle.std.specs.Prelude.{◌≡◌, ◌<◌, ◌≤◌, ℕ, ◌+◌, codes, List, [], ◌∷◌, ◌++◌, take, Option, Some, None, option_map, slice_index_or, Result, Ok, Err}
 use Rattle.std.specs.Fmt.{decimal}
-use Rattle.tda_io.specs.Outside.{Shelf, Tray, Written}
+use Rattle.tda_io.specs.Outside.{Shelf, Written}
 use Rattle.tda_io.specs.declared.outside.NoMemory.{NoMemory}
 use Rattle.tda_io.specs.declared.outside.OutFault.{OutFault}
 use Rattle.tda_io.specs.declared.outside.OutFault.TheVariants as fault_out

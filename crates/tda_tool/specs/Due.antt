@@ -63,9 +63,10 @@ abbrev pub fit_due : Result Inputs Ending → Ending
 fit_due (Ok i) = fit_ending i.spine
 fit_due (Err e) = e
 
+-- the ending that is due by what the reads give
+abbrev pub due_by : List (List ℕ) → (ℕ → Option (List ℕ)) → Ending
+due_by words given = elim (command_of words) [ None ↦ words_ending | Some Fit ↦ fit_due (inputs_from given) ]
+
 -- the ending that is due where no call of the inbox or the outbox fails
 abbrev pub due : List (List ℕ) → (List ℕ → Option (List ℕ)) → Ending
-due words holds = elim (command_of words) [
-  | None ↦ words_ending
-  | Some Fit ↦ fit_due (inputs_from (given_by words holds))
-]
+due words holds = due_by words (given_by words holds)

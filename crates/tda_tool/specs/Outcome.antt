@@ -1,12 +1,12 @@
 -- What a run of the program asked for, and what it leaves in the outbox.
-use Rattle.std.specs.Prelude.{◌≡◌, ◌≢◌, ◌<◌, ◌≤◌, ◌⊎◌, ◌+◌, ◌==◌, ℕ, Bool, true, false, if◌then◌else◌, List, [], ◌∷◌, ◌++◌, length, take, map, slice_index_or, Option, Some, None, IfSome, option_map, Result, Ok, Err}
+use Rattle.std.specs.Prelude.{◌≡◌, ◌≢◌, ◌<◌, ◌≤◌, ◌⊎◌, ◌+◌, ◌==◌, ℕ, Bool, true, if◌then◌else◌, List, [], ◌∷◌, ◌++◌, length, take, map, slice_index_or, Option, IfSome, option_map, Ok}
 use Rattle.std.specs.List.{list_any, zip}
 use Rattle.tda_io.specs.Outside.{Shelf, Tray, Written}
 use Rattle.tda_model.specs.Tables.{Tables}
 use Rattle.tda_model.specs.TablesText.{tables_text}
 use Rattle.tda_tool.specs.Attained.{Inputs, IsAttained}
-use Rattle.tda_tool.specs.Words.{reads_of, writes_of, fit_form, dash}
-use Rattle.tda_tool.specs.Due.{Ending, inputs_from, given_by, failing_at, due, fit_ending, read_ending, refused_ending}
+use Rattle.tda_tool.specs.Words.{reads_of, writes_of, read_names, dash}
+use Rattle.tda_tool.specs.Due.{inputs_from, given_by, failing_at, due_by, due, fit_ending, read_ending, refused_ending}
 
 -- a file with all its bytes, ended
 abbrev pub whole : List ℕ → List ℕ → Written
@@ -77,8 +77,8 @@ pub record FileRefused (words : List (List ℕ)) (shelf shelf_new : Option Shelf
   pub file : ℕ
   pub within : file < length (reads_of words)
   pub asked : shelf_new ≡ option_map (asks_all (take (file + 1) (reads_of words))) shelf
-  pub refused : IfSome shelf (λ s. inputs_from (given_by words s.holds) ≡ Err (refused_ending (slice_index_or fit_form.reads file [])))
-  pub written : LeavesReport (refused_ending (slice_index_or fit_form.reads file [])).report old new
+  pub refused : IfSome shelf (λ s. due words s.holds ≡ refused_ending (slice_index_or (read_names words) file []))
+  pub written : LeavesReport (refused_ending (slice_index_or (read_names words) file [])).report old new
 
 -- Outputs are begun only where no file was refused and no read failed.
 abbrev pub BeginsWhenDue : List (List ℕ) → Option Shelf → ℕ → ℕ → Option Tray → Option Tray → Type 0
@@ -91,8 +91,8 @@ pub record ReadFailed (words : List (List ℕ)) (shelf shelf_new : Option Shelf)
   pub file : ℕ
   pub within : file < length (reads_of words)
   pub asked : shelf_new ≡ option_map (asks_all (take (file + 1) (reads_of words))) shelf
-  pub accepted : IfSome shelf (λ s. inputs_from (failing_at file (given_by words s.holds)) ≡ Err (read_ending (slice_index_or fit_form.reads file [])))
-  pub written : LeavesReport (read_ending (slice_index_or fit_form.reads file [])).report old new
+  pub accepted : IfSome shelf (λ s. due_by words (failing_at file (given_by words s.holds)) ≡ read_ending (slice_index_or (read_names words) file []))
+  pub written : LeavesReport (read_ending (slice_index_or (read_names words) file [])).report old new
 
 -- `fit` wrote the text of tables that are attained over the files that the inbox holds, and its report, and nothing else.
 pub record FitWrote (words : List (List ℕ)) (holds : List ℕ → Option (List ℕ)) (old new : Option Tray) : Type 0 where

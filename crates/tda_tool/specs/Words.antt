@@ -96,6 +96,10 @@ pairs_after (word ∷ rest) = pairs_of rest
 abbrev pub value_of : List (List ℕ) → List ℕ → Option (List ℕ)
 value_of words name = value_in (pairs_after words) name
 
+-- the names that a command reads, in the order of judging; none where the words are no command
+abbrev pub read_names : List (List ℕ) → List (List ℕ)
+read_names words = elim (command_of words) [ Some c ↦ (form_of c).reads | None ↦ [] ]
+
 -- the values of the names that a command reads, and of those that it writes; none where the words are no command
 abbrev pub reads_of : List (List ℕ) → List (List ℕ)
 reads_of words = elim (command_of words) [ Some c ↦ values_in (pairs_after words) (form_of c).reads | None ↦ [] ]

@@ -13,7 +13,6 @@ mod totals;
 mod words;
 
 pub use top::tool;
-pub use words::{Command, judge, value_of};
 
 #[cfg(test)]
 mod tests;

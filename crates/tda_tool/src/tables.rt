@@ -1,6 +1,7 @@
 // The text of the plain tables.
-ghost use Rattle.std.specs.Prelude.{◌≡◌, ◌<◌, ◌≤◌, ◌++◌, ℕ, length, sum, IfOk, OnOk};
+ghost use Rattle.std.specs.Prelude.{◌≡◌, ◌<◌, ◌≤◌, ◌++◌, ℕ, true, length, sum, IfOk, OnOk};
 ghost use Rattle.std.specs.List.{flat_map};
+ghost use Rattle.tda_io.specs.Texts.{name_test};
 ghost use Rattle.tda_model.specs.Bounds.{persons_limit};
 ghost use Rattle.tda_model.specs.Spine.{IsUnit, level_of, children_of};
 ghost use Rattle.tda_model.specs.Tables.{Tables};
@@ -43,13 +44,13 @@ fn push_header(out: &mut Vec<u8>) -> Result<(), NoMemory>
 
 // Appends the row of a count, and nothing for a count of 0.
 fn push_count(out: &mut Vec<u8>, code: &str, cell: u32, count: u64) -> Result<(), NoMemory>
+    requires { name_test 16 code.now ≡ true }
     ensures { OnOk result (out.new.items ≡ out.old.items ++ count_row code.now cell count) }
 {
     if count == 0 {
         return Ok(());
     }
-    out.extend_from_slice(code.as_bytes())?;
-    out.push(b',')?;
+    push_field(out, code.as_bytes(), false)?;
     push_int(out, i128::from(cell))?;
     out.push(b',')?;
     push_int(out, i128::from(count))?;

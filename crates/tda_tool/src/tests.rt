@@ -2,6 +2,7 @@ ghost use Rattle.std.specs.Prelude.{◌≡◌, ◌-◌, ◌^◌, ◌<◌, IfOk};
 ghost use Rattle.tda_io.specs.Outside.{CountsOut};
 
 use super::*;
+use crate::words::judge;
 use std::alloc::Global;
 use std::test::Fail;
 use tda_io::{MemFile, MemInbox, MemOutbox, OutFault, Outbox};
@@ -22,6 +23,9 @@ const WORDS: &str = "fit --schema a --spine b --totals c --tables d";
 
 // The words between spaces.
 fn words_of(alloc: Global, line: &str) -> Result<Vec<String>, Fail> {
+    if line.is_empty() {
+        return Ok(Vec::new(alloc));
+    }
     let mut words = Vec::new(alloc);
     for word in line.split(' ') {
         words.push(String::from_str(alloc, word)?)?;
@@ -125,20 +129,26 @@ fn words_are_a_command_and_its_pairs(rt: HostRuntime) -> Result<(), Fail> {
         ),
         ("fit --schema a --spine b --totals c --seed d", false),
         ("fit --schema a --spine b --totals c tables d", false),
+        ("fit --schema a --schema a --totals c --tables d", false),
+        (
+            "fit --schema a --spine b --totals c --tables d --tables e",
+            false,
+        ),
         ("run --schema a --spine b --totals c --tables d", false),
     ];
     for (line, want) in table {
         let words = words_of(rt.alloc(), line)?;
         assert_eq!(rt; judge(&words).is_some(), want, "at {line}");
     }
-    let shown = ran(
-        rt.alloc(),
-        "fit --schema a --schema b",
-        [SCHEMA, SPINE, TOTALS],
-        0,
-        0,
-    )?;
-    assert_eq!(rt; shown.as_str(), "2|-=words\n");
+    Ok(())
+}
+
+#[test]
+fn other_words_have_their_report(rt: HostRuntime) -> Result<(), Fail> {
+    for line in ["", "fit --schema a --schema b"] {
+        let shown = ran(rt.alloc(), line, [SCHEMA, SPINE, TOTALS], 0, 0)?;
+        assert_eq!(rt; shown.as_str(), "2|-=words\n", "at {line}");
+    }
     Ok(())
 }
 
@@ -224,16 +234,27 @@ impl Outbox for Counter {
 fn no_call_follows_one_that_failed(rt: HostRuntime) -> Result<(), Fail> {
     let alloc = rt.alloc();
     let words = words_of(alloc, WORDS)?;
-    for fail in 1..7 {
-        let mut inbox = inbox_of(alloc, [SCHEMA, SPINE, TOTALS], 0)?;
+    let table = [
+        (0, 1),
+        (0, 2),
+        (0, 3),
+        (0, 4),
+        (0, 5),
+        (0, 6),
+        (2, 1),
+        (2, 2),
+        (2, 3),
+    ];
+    for (read, fail) in table {
+        let mut inbox = inbox_of(alloc, [SCHEMA, SPINE, TOTALS], read)?;
         let mut outbox = Counter {
             calls: 0,
             fail,
             faults: 0,
         };
         let status = tool(alloc, &words, &mut inbox, &mut outbox);
-        assert_eq!(rt; status, 5);
-        assert_eq!(rt; outbox.calls, fail);
+        assert_eq!(rt; status, 5, "at {read} {fail}");
+        assert_eq!(rt; outbox.calls, fail, "at {read} {fail}");
     }
     Ok(())
 }

@@ -1,5 +1,5 @@
 // The top call.
-ghost use Rattle.std.specs.Prelude.{◌≡◌, ◌≢◌, ◌⊎◌, ◌↔◌, ◌-◌, ◌^◌, ◌<◌, map, string_bytes, option_map, IfOk, IfSome, IsTrue, None};
+ghost use Rattle.std.specs.Prelude.{◌≡◌, ◌≢◌, ◌⊎◌, ◌↔◌, ◌-◌, ◌^◌, ◌<◌, ◌≤◌, map, string_bytes, option_map, IfOk, IfSome, IsTrue, Some, None};
 ghost use Rattle.tda_io.specs.Outside.{CountsOut};
 ghost use Rattle.tda_tool.specs.Words.{command_of, reads_of, writes_of};
 ghost use Rattle.tda_tool.specs.Due.{due, words_ending};
@@ -9,6 +9,7 @@ ghost use Rattle.tda_tool.specs.Answer.{SuitsWords, IsDue, Asks, files_of, Count
 use crate::answer::Answer;
 use crate::prepare::prepare;
 use crate::publish::{publish, tell_memory};
+use crate::words::Command;
 use std::alloc::Global;
 use tda_io::{Inbox, NoMemory, OutFault, Outbox};
 
@@ -23,12 +24,15 @@ fn run<I: Inbox, O: Outbox>(
     requires room_in { I.faults inbox.old < 2 ^ 64 - 1 }
     requires room_out { O.faults outbox.old < 2 ^ 64 - 1 }
     ensures suits { IfOk result (SuitsWords (map string_bytes words.now)) }
-    ensures due { IfOk result (λ a. IfSome (I.told inbox.old) (λ s. IsDue (map string_bytes words.now) s.holds a)) }
+    ensures due { IfOk result (λ a.
+        IfSome (I.told inbox.old) (λ s. IsDue (map string_bytes words.now) s.holds a)) }
     ensures told { IfOk result (Asks (map string_bytes words.now) (I.told inbox.old) (I.told inbox.new)) }
     ensures asked { AsksPrefix (reads_of (map string_bytes words.now)) (I.told inbox.old) (I.told inbox.new) }
-    ensures written { IfOk result (λ a. Leaves (files_of (map string_bytes words.now) a) (O.told outbox.old) (O.told outbox.new)) }
+    ensures written { IfOk result (λ a.
+        Leaves (files_of (map string_bytes words.now) a) (O.told outbox.old) (O.told outbox.new)) }
     ensures begun { BeginsPrefix (writes_of (map string_bytes words.now)) (O.told outbox.old) (O.told outbox.new) }
-    ensures begun_when_due { BeginsWhenDue (map string_bytes words.now) (I.told inbox.old) (I.faults inbox.old) (I.faults inbox.new) (O.told outbox.old) (O.told outbox.new) }
+    ensures begun_when_due { BeginsWhenDue (map string_bytes words.now)
+        (I.told inbox.old) (I.faults inbox.old) (I.faults inbox.new) (O.told outbox.old) (O.told outbox.new) }
     ensures cause_in { CountsRun (I.faults inbox.old) (I.faults inbox.new) result }
     ensures cause_out { CountsOut result (O.faults outbox.old) (O.faults outbox.new) }
 {
@@ -54,7 +58,7 @@ fn status(run: &Result<Answer, OutFault>) -> u8
 
 /// Does all that the program does, and answers its status: 0 where all outputs and the report are written, 2 where the
 /// words are no command, 3 where a file isn't accepted, 4 where a read failed, 5 where a write failed, 8 for want of
-/// memory. No name is begun in the outbox.
+/// memory. No name is begun in the outbox. Both counts of faults are below 2^64 - 1.
 pub fn tool<I: Inbox, O: Outbox>(
     alloc: Global,
     words: &[String],
@@ -68,38 +72,47 @@ pub fn tool<I: Inbox, O: Outbox>(
     ensures statuses { IsTrue (is_status result) }
 
     // Where no object failed and memory sufficed, the status is the one that is due. A refusal has its report alone.
-    ensures settled { IsSettled result → IfSome (I.told inbox.old) (λ s. (due (map string_bytes words.now) s.holds).status ≡ result) }
+    ensures settled { IsSettled result → IfSome (I.told inbox.old) (λ s.
+        (due (map string_bytes words.now) s.holds).status ≡ result) }
     ensures settled_report { IsSettled result → result ≢ 0 → IfSome (I.told inbox.old) (λ s.
         LeavesReport (due (map string_bytes words.now) s.holds).report (O.told outbox.old) (O.told outbox.new)) }
 
     // The tables that `fit` writes are attained over what the inbox holds, and nothing else is written but the report.
-    ensures fit_wrote { result ≡ 0 → IfSome (I.told inbox.old) (λ s.
+    ensures fit_wrote { result ≡ 0 → command_of (map string_bytes words.now) ≡ Some Command.Fit → IfSome (I.told inbox.old) (λ s.
         FitWrote (map string_bytes words.now) s.holds (O.told outbox.old) (O.told outbox.new)) }
-    ensures all_written { result ≡ 0 → LeavesAll (writes_of (map string_bytes words.now)) (O.told outbox.old) (O.told outbox.new) }
+    ensures all_written { result ≡ 0 →
+        LeavesAll (writes_of (map string_bytes words.now)) (O.told outbox.old) (O.told outbox.new) }
 
     // Which words are refused.
     ensures words { result ≡ 2 → command_of (map string_bytes words.now) ≡ None }
-    ensures no_command { command_of (map string_bytes words.now) ≡ None → (result ≡ 2) ⊎ (result ≡ 5) ⊎ (result ≡ 8) }
+    ensures no_command { command_of (map string_bytes words.now) ≡ None →
+        (result ≡ 2) ⊎ (result ≡ 5) ⊎ (result ≡ 8) }
     ensures words_report { result ≡ 2 → LeavesReport words_ending.report (O.told outbox.old) (O.told outbox.new) }
 
     // Which file is refused.
-    ensures refused { result ≡ 3 → FileRefused (map string_bytes words.now) (I.told inbox.old) (I.told inbox.new) (O.told outbox.old) (O.told outbox.new) }
+    ensures refused { result ≡ 3 → FileRefused (map string_bytes words.now)
+        (I.told inbox.old) (I.told inbox.new) (O.told outbox.old) (O.told outbox.new) }
 
     // Which object failed.
     ensures write_failed { (result ≡ 5) ↔ (O.faults outbox.old < O.faults outbox.new) }
     ensures no_write_failed { result ≢ 5 → O.faults outbox.new ≡ O.faults outbox.old }
+    ensures never_falls { I.faults inbox.old ≤ I.faults inbox.new }
     ensures read_failed { result ≡ 4 → I.faults inbox.old < I.faults inbox.new }
-    ensures after_failed_read { I.faults inbox.old < I.faults inbox.new → (result ≡ 4) ⊎ (result ≡ 5) ⊎ (result ≡ 8) }
+    ensures after_failed_read { I.faults inbox.old < I.faults inbox.new →
+        (result ≡ 4) ⊎ (result ≡ 5) ⊎ (result ≡ 8) }
     ensures no_read_failed { IsSettled result → I.faults inbox.new ≡ I.faults inbox.old }
-    ensures failed_file { result ≡ 4 → ReadFailed (map string_bytes words.now) (I.told inbox.old) (I.told inbox.new) (O.told outbox.old) (O.told outbox.new) }
+    ensures failed_file { result ≡ 4 → ReadFailed (map string_bytes words.now)
+        (I.told inbox.old) (I.told inbox.new) (O.told outbox.old) (O.told outbox.new) }
 
     // The inbox is asked for the first ones of the command's names, in order, and for no other.
     ensures asked { AsksPrefix (reads_of (map string_bytes words.now)) (I.told inbox.old) (I.told inbox.new) }
-    ensures all_asked { result ≡ 0 → I.told inbox.new ≡ option_map (asks_all (reads_of (map string_bytes words.now))) (I.told inbox.old) }
+    ensures all_asked { result ≡ 0 →
+        I.told inbox.new ≡ option_map (asks_all (reads_of (map string_bytes words.now))) (I.told inbox.old) }
 
     // Whatever the status, no name is begun but the command's first outputs, in order, and then the report.
     ensures begun { BeginsPrefix (writes_of (map string_bytes words.now)) (O.told outbox.old) (O.told outbox.new) }
-    ensures begun_when_due { BeginsWhenDue (map string_bytes words.now) (I.told inbox.old) (I.faults inbox.old) (I.faults inbox.new) (O.told outbox.old) (O.told outbox.new) }
+    ensures begun_when_due { BeginsWhenDue (map string_bytes words.now)
+        (I.told inbox.old) (I.faults inbox.old) (I.faults inbox.new) (O.told outbox.old) (O.told outbox.new) }
 {
     status(&run(alloc, words, inbox, outbox))
 }

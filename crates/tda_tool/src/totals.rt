@@ -13,12 +13,9 @@ ghost use Rattle.tda_tool.specs.declared.totals.TotFault.TheVariants as fault;
 
 use std::alloc::{AllocError, AllocFailed, Global};
 use std::marker::Model;
-use tda_io::{NoMemory as OutOfMemory, RowFault, Rows, has_header, read_int, read_rows};
+use tda_io::{NoMemory as OutOfMemory, PERSONS, RowFault, Rows, has_header, read_int, read_rows};
 use tda_spine::Spine;
 use thiserror::Error;
-
-// The most persons of a state, and of all states together.
-const PERSONS: u64 = 1 << 30;
 
 // The level of the states.
 const STATES: usize = 1;

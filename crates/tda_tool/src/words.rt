@@ -6,7 +6,7 @@ ghost use Rattle.tda_tool.specs.Words.{pairs_of, value_in, times_in, dashed, for
 
 /// What the program is asked to do.
 #[derive(Clone, Copy, Debug, PartialEq, Eq)]
-pub enum Command {
+pub(crate) enum Command {
     /// Tables from given totals.
     Fit,
 }
@@ -164,7 +164,7 @@ fn has_form(command: Command, words: &[String]) -> bool
 /// The command that the words are: its word, and then each of its names with a value, in any order. The values are
 /// names of files, of which none is empty, and a written one is neither `-` nor equal to another one.
 /// None where the words are no command.
-pub fn judge(words: &[String]) -> Option<Command>
+pub(crate) fn judge(words: &[String]) -> Option<Command>
     ensures { result ≡ command_of (map string_bytes words.now) }
 {
     if has_form(Command::Fit, words) {
@@ -175,7 +175,7 @@ pub fn judge(words: &[String]) -> Option<Command>
 }
 
 /// The value of the pair that has this name, which is given without its two dashes. None exactly where no pair has it.
-pub fn value_of<'a>(words: &'a [String], name: &str) -> Option<&'a str>
+pub(crate) fn value_of<'a>(words: &'a [String], name: &str) -> Option<&'a str>
     requires { command_of (map string_bytes words.now) ≢ None }
     ensures { option_map (λ v. v.now) result ≡ value_of (map string_bytes words.now) name.now }
 {

@@ -1,4 +1,4 @@
-use Rattle.std.proofs.Common.{map, string_bytes, ◌∙◌, sym}
+use Rattle.std.proofs.Common.{map, string_bytes}
 use Rattle.tda_tool.proofs.Ran as ran
 use Rattle.tda_tool.proofs.top.tool.Goals as goal
 
