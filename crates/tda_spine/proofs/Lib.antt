@@ -11,3 +11,4 @@ pub mod Lookups
 pub mod Walks
 pub mod CodeLists
 pub mod Climbs
+mod Worked

@@ -14,3 +14,4 @@ pub mod OneCellText
 pub mod PlainCounts
 pub mod PlainText
 pub mod Names
+mod Worked
