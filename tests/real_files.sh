@@ -28,17 +28,17 @@ skip() {
   echo "skipped: $1"
 }
 
-# fit SCHEMA SPINE TOTALS TABLES
+# fit SCHEMA SPINE FACILITIES TOTALS TABLES
 fit() {
-  "$tda" fit --schema "$1" --spine "$2" --totals "$3" --tables "$4"
+  "$tda" fit --schema "$1" --spine "$2" --facilities "$3" --totals "$4" --tables "$5"
 }
 
 fit_to_full_device() {
-  fit "$data/schema.toml" "$data/spine.csv" "$data/totals.csv" "$folder/other.csv" >/dev/full
+  fit "$data/schema.toml" "$data/spine.csv" "$data/facilities.csv" "$data/totals.csv" "$folder/other.csv" >/dev/full
 }
 
 printf '%3000s' x >"$folder/tables.csv"
-try "a release, over a longer file" 0 "ok fit fits=11" fit "$data/schema.toml" "$data/spine.csv" "$data/totals.csv" "$folder/tables.csv"
+try "a release, over a longer file" 0 "ok fit fits=11" fit "$data/schema.toml" "$data/spine.csv" "$data/facilities.csv" "$data/totals.csv" "$folder/tables.csv"
 try "its tables" 0 "unit,cell,count
 US,0,465
 North,0,120
@@ -50,24 +50,26 @@ S1,0,345
 S1.1,0,345
 S1.1.a,0,345" cat "$folder/tables.csv"
 try "no words" 2 words "$tda"
-try "a missing file" 4 "read schema" fit "$folder/none" "$data/spine.csv" "$data/totals.csv" "$folder/new.csv"
-try "a missing second file" 4 "read spine" fit "$data/schema.toml" "$folder/none" "$data/totals.csv" "$folder/new.csv"
-try "a folder in place of a file" 4 "read totals" fit "$data/schema.toml" "$data/spine.csv" "$folder" "$folder/new.csv"
-try "a file that isn't accepted" 3 "refused spine NotYet" fit "$data/schema.toml" "$data/totals.csv" "$data/totals.csv" "$folder/new.csv"
-try "a missing file after a refused one" 3 "refused schema NotYet" fit "$data/spine.csv" "$folder/none" "$folder/none" "$folder/new.csv"
+try "a missing file" 4 "read schema" fit "$folder/none" "$data/spine.csv" "$data/facilities.csv" "$data/totals.csv" "$folder/new.csv"
+try "a missing second file" 4 "read spine" fit "$data/schema.toml" "$folder/none" "$data/facilities.csv" "$data/totals.csv" "$folder/new.csv"
+try "a missing third file" 4 "read facilities" fit "$data/schema.toml" "$data/spine.csv" "$folder/none" "$data/totals.csv" "$folder/new.csv"
+try "a folder in place of a file" 4 "read totals" fit "$data/schema.toml" "$data/spine.csv" "$data/facilities.csv" "$folder" "$folder/new.csv"
+try "a file that isn't accepted" 3 "refused spine BadHeader 1" fit "$data/schema.toml" "$data/totals.csv" "$data/facilities.csv" "$data/totals.csv" "$folder/new.csv"
+try "facilities that aren't" 3 "refused facilities BadHeader 1" fit "$data/schema.toml" "$data/spine.csv" "$data/totals.csv" "$data/totals.csv" "$folder/new.csv"
+try "a missing file after a refused one" 3 "refused schema BadToml" fit "$data/spine.csv" "$folder/none" "$folder/none" "$folder/none" "$folder/new.csv"
 try "nothing but the report was begun" 1 - test -e "$folder/new.csv"
-try "an output in a folder that isn't there" 5 - fit "$data/schema.toml" "$data/spine.csv" "$data/totals.csv" "$folder/none/tables.csv"
-try "a folder in place of an output" 5 - fit "$data/schema.toml" "$data/spine.csv" "$data/totals.csv" "$folder"
+try "an output in a folder that isn't there" 5 - fit "$data/schema.toml" "$data/spine.csv" "$data/facilities.csv" "$data/totals.csv" "$folder/none/tables.csv"
+try "a folder in place of an output" 5 - fit "$data/schema.toml" "$data/spine.csv" "$data/facilities.csv" "$data/totals.csv" "$folder"
 
 cp "$data/schema.toml" "$folder/closed" && chmod 000 "$folder/closed"
 if cat "$folder/closed" >/dev/null 2>&1; then
   skip "a file without read permission (this user may read any file)"
 else
-  try "a file without read permission" 4 "read schema" fit "$folder/closed" "$data/spine.csv" "$data/totals.csv" "$folder/new.csv"
+  try "a file without read permission" 4 "read schema" fit "$folder/closed" "$data/spine.csv" "$data/facilities.csv" "$data/totals.csv" "$folder/new.csv"
 fi
 
 if [ -c /dev/full ] && ! (echo full >/dev/full) 2>/dev/null; then
-  try "a full device" 5 - fit "$data/schema.toml" "$data/spine.csv" "$data/totals.csv" /dev/full
+  try "a full device" 5 - fit "$data/schema.toml" "$data/spine.csv" "$data/facilities.csv" "$data/totals.csv" /dev/full
   try "a report to a full device" 5 - fit_to_full_device
   try "its output stands" 0 "$(cat "$folder/tables.csv")" cat "$folder/other.csv"
 else

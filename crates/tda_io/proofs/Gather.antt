@@ -7,9 +7,10 @@ use Rattle.csv.specs.declared.parser.State.TheVariants as st
 use Rattle.csv.specs.declared.reader.Reader.{Reader}
 use Rattle.csv.specs.declared.reader.Trim.TheVariants as trim
 use Rattle.csv.proofs.RecordFacts.{cut-length}
+use Rattle.tda_io.specs.RowReading.{Reads, rest_of}
 use Rattle.tda_io.specs.Rows.{bad_width, rows_of}
 use Rattle.tda_io.specs.Table.{row_size, table_rows, IsTable}
-use Rattle.tda_io.proofs.AllRows.{Reads, last, next, rest_of, strip_bom-shorter}
+use Rattle.tda_io.proofs.AllRows.{last, next, strip_bom-shorter}
 use Rattle.tda_io.proofs.Tables.{even, more_rows, uneven}
 
 abbrev pub size_of : Option (List ℕ) → ℕ

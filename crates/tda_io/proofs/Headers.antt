@@ -35,6 +35,25 @@ pub one_more : (xs ys : Row) (due : Bool) (k : ℕ) → k < length xs → k < le
 one_more xs ys due k in_x in_y leads =
     let now = rw (drop_more xs k [] in_x, drop_more ys k [] in_y) at leads in now
 
+-- the fields of a column, and whether they are the same
+module _ (xs ys : Row) (due : Bool) (k : ℕ) (in_x : k < length xs) (in_y : k < length ys) (leads : same_row (drop k xs) (drop k ys) ≡ due) (ne : Bool) (is : ne ≡ not (bytes_eq (get_or xs k []) (get_or ys k []))) where
+  here : (bytes_eq (get_or xs k []) (get_or ys k []) && same_row (drop (k + 1) xs) (drop (k + 1) ys)) ≡ due
+  here = one_more xs ys due k in_x in_y leads
+
+  pub field_differs : ne ≡ true → false ≡ due
+  field_differs other = fail (bytes_eq (get_or xs k []) (get_or ys k [])) _ (sym is ∙ other) here
+    where
+      fail : (b c : Bool) → not b ≡ true → (b && c) ≡ due → false ≡ due
+      fail true c h e = cc
+      fail false c h e = e
+
+  pub field_agrees : ne ≡ false → same_row (drop (k + 1) xs) (drop (k + 1) ys) ≡ due
+  field_agrees equal = pass (bytes_eq (get_or xs k []) (get_or ys k [])) _ (sym is ∙ equal) here
+    where
+      pass : (b c : Bool) → not b ≡ false → (b && c) ≡ due → c ≡ due
+      pass true c h e = e
+      pass false c h e = cc
+
 width_is : (rows : List Row) → row_width rows ≡ length (get_or rows 0 [])
 width_is [] = refl
 width_is (row ∷ rows) = refl
@@ -43,29 +62,20 @@ abbrev pub texts_of : List (Bor (List ℕ)) → Row
 texts_of ts = map (λ t. t.now) ts
 
 module _ (names : List (Bor (List ℕ))) (rows : List Row) (k : ℕ) (below : k < length names) (width : row_width rows ≡ length names) where
-  -- the name of the column, and its field
-  column : (d : Bor (List ℕ)) (due : Bool) → d.now ≡ [] → same_row (drop k (texts_of names)) (drop k (get_or rows 0 [])) ≡ due
-      → (bytes_eq (get_or names k d).now (field_of rows 0 k) && same_row (drop (k + 1) (texts_of names)) (drop (k + 1) (get_or rows 0 []))) ≡ due
-  column d due empty leads =
-      let in_x : k < length (texts_of names) = rw length-map below in
-      let in_y : k < length (get_or rows 0 []) = omega (arith, width_is rows) in
-      let name : get_or (texts_of names) k [] ≡ (get_or names k d).now = rw (← empty) (get_or-map (λ t. t.now) names k d) in
-      let now = one_more (texts_of names) (get_or rows 0 []) due k in_x in_y leads in
-      rw name at now
+  name : (d : Bor (List ℕ)) → d.now ≡ [] → get_or (texts_of names) k [] ≡ (get_or names k d).now
+  name d empty = rw (← empty) (get_or-map (λ t. t.now) names k d)
+
+  in_names : k < length (texts_of names)
+  in_names = rw length-map below
+
+  in_row : k < length (get_or rows 0 [])
+  in_row = omega (arith, width, below, width_is rows)
 
   pub goes_on : (d : Bor (List ℕ)) (due : Bool) → d.now ≡ [] → same_row (drop k (texts_of names)) (drop k (get_or rows 0 [])) ≡ due
       → (ne : Bool) → ne ≡ not (bytes_eq (get_or names k d).now (field_of rows 0 k)) → ne ≡ false
       → same_row (drop (k + 1) (texts_of names)) (drop (k + 1) (get_or rows 0 [])) ≡ due
-  goes_on d due empty leads ne is equal = pass (bytes_eq (get_or names k d).now (field_of rows 0 k)) _ due (sym is ∙ equal) (column d due empty leads)
-    where
-      pass : (b c due : Bool) → not b ≡ false → (b && c) ≡ due → c ≡ due
-      pass true c due h e = e
-      pass false c due h e = cc
+  goes_on d due empty leads ne is equal = field_agrees (texts_of names) (get_or rows 0 []) due k in_names in_row leads ne (rw (name d empty) is) equal
 
   pub stops : (d : Bor (List ℕ)) (due : Bool) → d.now ≡ [] → same_row (drop k (texts_of names)) (drop k (get_or rows 0 [])) ≡ due
       → (ne : Bool) → ne ≡ not (bytes_eq (get_or names k d).now (field_of rows 0 k)) → ne ≡ true → false ≡ due
-  stops d due empty leads ne is other = fail (bytes_eq (get_or names k d).now (field_of rows 0 k)) _ due (sym is ∙ other) (column d due empty leads)
-    where
-      fail : (b c due : Bool) → not b ≡ true → (b && c) ≡ due → false ≡ due
-      fail true c due h e = cc
-      fail false c due h e = e
+  stops d due empty leads ne is other = field_differs (texts_of names) (get_or rows 0 []) due k in_names in_row leads ne (rw (name d empty) is) other

@@ -5,3 +5,9 @@ pub mod Gather
 pub mod Numbers
 pub mod Headers
 pub mod Loops
+pub mod OneByOne
+pub mod RowSizes
+pub mod RestDue
+pub mod PlainNames
+pub mod PlainRows
+pub mod Appends

@@ -5,3 +5,4 @@ pub mod Table
 pub mod Texts
 pub mod Due
 pub mod Csv
+pub mod RowReading

@@ -1,5 +1,5 @@
 -- Rows of one width, kept as the bytes of all fields and the places where the fields end.
-use Rattle.std.specs.Prelude.{◌≡◌, ◌+◌, ◌*◌, ℕ, zero, suc, List, [], ◌∷◌, length, take, drop}
+use Rattle.std.specs.Prelude.{◌≡◌, ◌+◌, ◌*◌, ℕ, zero, suc, List, [], ◌∷◌, length, take, drop, sum_by}
 use Rattle.csv.specs.Records.{cut_from, Rising}
 
 -- as many rows of these fields, each so wide
@@ -15,6 +15,13 @@ table_rows width count ends bytes = rows_by width count (cut_from 0 ends bytes)
 abbrev pub row_size : List (List ℕ) → ℕ
 row_size [] = 0
 row_size (field ∷ fields) = length field + row_size fields
+
+-- the same and one more for each field, as the byte that ends it
+abbrev pub row_cost : List (List ℕ) → ℕ
+row_cost row = row_size row + length row
+
+abbrev pub rows_cost : List (List (List ℕ)) → ℕ
+rows_cost rows = sum_by row_cost rows
 
 -- the ends rise within the bytes, there are as many as fields, and without rows the width is 0
 pub record IsTable (width count : ℕ) (ends bytes : List ℕ) : Type 0 where

@@ -6,6 +6,7 @@ mod header;
 mod mem_inbox;
 mod mem_outbox;
 mod outside;
+mod row_reader;
 mod rows;
 mod texts;
 
@@ -14,6 +15,7 @@ pub use header::has_header;
 pub use mem_inbox::{MemFile, MemInbox};
 pub use mem_outbox::MemOutbox;
 pub use outside::{InFault, Inbox, NoMemory, OutFault, Outbox, PERSONS};
+pub use row_reader::RowReader;
 pub use rows::{RowFault, Rows, read_rows};
 pub use texts::{is_name, push_field, push_int, read_int};
 

@@ -1,6 +1,6 @@
 -- The cell of a list of values, reached attribute by attribute.
 use Rattle.std.proofs.Common.{◌≡◌, ℕ, suc, ◌<◌, ◌≤◌, ◌*◌, ◌+◌, ◌/◌, ◌%◌, List, [], ◌∷◌, length, slice_get, Some, None, get_or, refl, ap, ◌∙◌, arith}
-use Rattle.std.proofs.lemmas.Nat.{div-mul-add, mod-mul-add, mul-add-lt}
+use Rattle.std.proofs.lemmas.Nat.{div-mul-add, mod-mul-add, mul-add-lt, mul-le}
 use Rattle.tda_model.specs.Schema.{Attribute}
 use Rattle.tda_model.specs.Cells.{cells_in, values_in}
 
@@ -56,6 +56,16 @@ are_values (a ∷ rest) (v ∷ vs) same each = (each 0 (omega arith), are_values
 
 pub cells_in-some : (attributes : List Attribute) (values : List ℕ) → AreValues attributes values → 1 ≤ cells_in attributes
 cells_in-some attributes values h = let r = reaches 0 attributes values h in omega (arith, r.less)
+
+-- one more value stays within the cells
+pub room_for : (cell : ℕ) (attributes : List Attribute) (values : List ℕ) (a : Attribute) (rest : List Attribute) (v : ℕ) (vs : List ℕ) → attributes ≡ a ∷ rest → values ≡ v ∷ vs → AreValues attributes values
+    → (cell + 1) * cells_in attributes ≤ 4096 → cell * length a.values + v < 4096
+room_for cell attributes values a rest v vs first second are room =
+    let here : AreValues (a ∷ rest) (v ∷ vs) = rw (first, second) at are in
+    let all : (cell + 1) * (length a.values * cells_in rest) ≤ 4096 = rw first at room in
+    let some = cells_in-some rest vs here.1 in
+    let scaled : (cell + 1) * length a.values * 1 ≤ (cell + 1) * length a.values * cells_in rest = mul-le ((cell + 1) * length a.values) 1 ((cell + 1) * length a.values) (cells_in rest) (omega arith) some in
+    omega (arith, here.0, all, scaled)
 
 pub no_attribute_left : (cell : ℕ) (attributes : List Attribute) (values : List ℕ) → length attributes ≡ 0 → reached cell attributes values ≡ cell
 no_attribute_left cell [] values h = refl

@@ -5,6 +5,7 @@ use Rattle.std.specs.Str.{bytes_eq}
 use Rattle.tda_io.specs.Texts.{name_test}
 use Rattle.tda_model.specs.Schema.{Attribute}
 use Rattle.tda_schema.specs.Raw.{RawRecode, RawQuery, RawLevel, RawSchema}
+use Rattle.tda_schema.specs.Origins.{Origins, origins_of, concerned}
 
 abbrev pub is_name : List ℕ → Bool
 is_name text = name_test 32 text
@@ -34,13 +35,18 @@ are_distinct (x ∷ xs) = not (list_any (bytes_eq x) xs) && are_distinct xs
 abbrev pub attribute_is_distinct : Attribute → Bool
 attribute_is_distinct a = are_distinct a.values
 
-abbrev pub level_is_distinct : RawLevel → Bool
-level_is_distinct l = are_distinct (map (λ q. q.name) l.queries)
+-- no two entries concern one name
+abbrev pub query_is_distinct : Origins → RawQuery → Bool
+query_is_distinct origins q = are_distinct (map (concerned origins) q.by)
 
--- no name stands twice: among attributes and recodes, among the values of an attribute, among levels, among the queries of a level
+abbrev pub level_is_distinct : Origins → RawLevel → Bool
+level_is_distinct origins l = are_distinct (map (λ q. q.name) l.queries) && list_all (query_is_distinct origins) l.queries
+
+-- no name stands twice: among attributes and recodes, among the values of an attribute, among levels, among the queries of
+-- a level, among what the entries of a query concern
 abbrev pub is_distinct : RawSchema → Bool
 is_distinct s =
     are_distinct (map (λ a. a.name) s.attributes ++ map (λ r. r.name) s.recodes)
     && list_all attribute_is_distinct s.attributes
     && are_distinct (map (λ l. l.name) s.levels)
-    && list_all level_is_distinct s.levels
+    && list_all (level_is_distinct (origins_of s.recodes)) s.levels

@@ -25,27 +25,3 @@ pub record IsNamed (s : Schema) : Type 0 where
   pub values : All (λ a. AllPass is_name a.values) s.attributes
   pub levels : AllPass (λ l. is_name l.name) s.levels
   pub distinct : are_distinct (map (λ l. l.name) s.levels) ≡ true
-
--- one attribute with one value, and nothing to count or to leave out
-pub record IsThin (s : Schema) : Type 0 where
-  pub values : map (λ a. length a.values) s.attributes ≡ 1 ∷ []
-  pub recodes : s.recodes ≡ []
-  pub zeros : s.zeros ≡ []
-  pub queries : All (λ l. l.queries ≡ []) s.levels
-
--- the schema of these attributes and levels, with nothing to count or to leave out, and the total 1
-abbrev pub plain_schema : List Attribute → List Level → Schema
-plain_schema attributes levels = record {
-  total = record { num = 1; den = 1 };
-  attributes = attributes;
-  recodes = [];
-  zeros = [];
-  levels = levels;
-}
-
--- what each schema keeps beside its number of cells
-pub record IsKept (s : Schema) (cells : ℕ) : Type 0 where
-  pub limits : IsWithinLimits s
-  pub named : IsNamed s
-  pub thin : IsThin s
-  pub counted : cells ≡ cell_count s

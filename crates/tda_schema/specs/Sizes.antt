@@ -1,5 +1,5 @@
--- How many there are of each in a written schema, and which schemas are read yet.
-use Rattle.std.specs.Prelude.{codes, ℕ, Bool, true, false, ◌&&◌, ◌==◌, List, [], ◌∷◌, length, find, Option, nat_le}
+-- How many there are of each in a written schema.
+use Rattle.std.specs.Prelude.{ℕ, Bool, true, ◌&&◌, ◌==◌, List, length, find, Option, nat_le}
 use Rattle.std.specs.List.{list_all}
 use Rattle.std.specs.Option.{option_map_or}
 use Rattle.std.specs.Str.{bytes_eq}
@@ -35,20 +35,3 @@ has_sizes s =
     && list_all level_has_size s.levels
     && is_within 1 4096 (cells_in s.attributes)
     && list_all (recode_has_size s.attributes) s.recodes
-
--- one attribute with one value
-abbrev pub has_one_value : List Attribute → Bool
-has_one_value (a ∷ []) = length a.values == 1
-has_one_value _ = false
-
-abbrev pub counts_nothing : RawLevel → Bool
-counts_nothing l = length l.queries == 0
-
--- one attribute with one value, no recode, no zero row, no query, and the total `1`
-abbrev pub is_thin : RawSchema → Bool
-is_thin s =
-    has_one_value s.attributes
-    && length s.recodes == 0
-    && length s.zeros == 0
-    && list_all counts_nothing s.levels
-    && bytes_eq s.total (codes "1")

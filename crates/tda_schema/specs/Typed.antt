@@ -4,7 +4,7 @@ use Rattle.toml.specs.Data.{Data, Items, no_items, item, Members, no_members, me
 use Rattle.tda_io.specs.Due.{◌>>=◌, fault_if}
 use Rattle.tda_model.specs.Schema.{Attribute}
 use Rattle.tda_schema.specs.declared.fault.SchemaFault.{SchemaFault}
-use Rattle.tda_schema.specs.declared.fault.SchemaFault.TheVariants.{NotYet}
+use Rattle.tda_schema.specs.declared.fault.SchemaFault.TheVariants.{MissingKey, WrongType}
 use Rattle.tda_schema.specs.Raw.{RawRecode, RawListed, RawQuery, RawLevel, RawSchema}
 
 -- the value, or else the fault
@@ -13,13 +13,13 @@ found fault (Some x) = Ok x
 found fault None = Err fault
 
 abbrev pub string_of : Data → Result (List ℕ) SchemaFault
-string_of d = found NotYet (as_str d)
+string_of d = found WrongType (as_str d)
 
 abbrev pub table_of : Data → Result Members SchemaFault
-table_of d = found NotYet (as_table d)
+table_of d = found WrongType (as_table d)
 
 abbrev pub items_of : Data → Result Items SchemaFault
-items_of d = found NotYet (as_array d)
+items_of d = found WrongType (as_array d)
 
 -- each item read, in order
 abbrev pub each : {A : Type 0} → (Data → Result A SchemaFault) → Items → Result (List A) SchemaFault
@@ -34,7 +34,7 @@ abbrev pub list_of : {A : Type 0} → (Data → Result A SchemaFault) → Data �
 list_of read d = items_of d >>= each read
 
 abbrev pub member_at : List ℕ → Members → Result Data SchemaFault
-member_at key table = found NotYet (get_member key table)
+member_at key table = found MissingKey (get_member key table)
 
 -- an array that may be left out
 abbrev pub optional_list : {A : Type 0} → (Data → Result A SchemaFault) → Option Data → Result (List A) SchemaFault
@@ -48,7 +48,7 @@ is_one None = false
 
 -- the one version of the format: the integer 1
 abbrev pub version_of : Data → Result (Unit {0}) SchemaFault
-version_of d = fault_if (not (is_one (as_integer d))) NotYet
+version_of d = fault_if (not (is_one (as_integer d))) WrongType
 
 abbrev pub attribute_of : Data → Result Attribute SchemaFault
 attribute_of d = do

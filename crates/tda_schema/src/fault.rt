@@ -6,9 +6,48 @@ use std::alloc::{AllocError, AllocFailed};
 use tda_io::NoMemory as OutOfMemory;
 use thiserror::Error;
 
-/// Why a text is no schema.
+/// Why a text is no schema. Of the faults that hold, the first in this order is the text's.
 #[derive(Clone, Copy, Debug, PartialEq, Eq, Error)]
 pub enum SchemaFault {
+    /// The text isn't a TOML document.
+    #[error("no TOML document")]
+    BadToml,
+    /// A table has a key that isn't listed.
+    #[error("a key that isn't listed")]
+    UnknownKey,
+    /// A table lacks a required key.
+    #[error("a required key is missing")]
+    MissingKey,
+    /// A value isn't of its type, or the version isn't the integer 1.
+    #[error("a value of another type")]
+    WrongType,
+    /// The name of an attribute, recode, level or query, a value or a label isn't a name.
+    #[error("no name")]
+    BadName,
+    /// A name stands twice where names have to differ.
+    #[error("a name stands twice")]
+    Repeated,
+    /// There are too few or too many of something.
+    #[error("too few or too many")]
+    BadSize,
+    /// A name of an attribute, a value or a recode is nobody's.
+    #[error("an unknown name")]
+    UnknownName,
+    /// The total isn't a fraction of at most 16, or a share isn't one above 0 and at most 16.
+    #[error("no share")]
+    BadShare,
+    /// The common denominator of the shares, or the total's denominator, is above 2^20.
+    #[error("a denominator is too large")]
+    Denominator,
+    /// The sum of the shares is above the total.
+    #[error("the shares pass the total")]
+    OverTotal,
+    /// Two groups of a level have a cell in common, and neither holds the other.
+    #[error("groups aren't nested")]
+    NotNested,
+    /// A value of the first attribute has no possible cell.
+    #[error("a kind has no possible cell")]
+    KindWithoutCell,
     /// The text is no schema, or one that isn't read yet.
     #[error("no schema that is read yet")]
     NotYet,

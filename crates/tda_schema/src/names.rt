@@ -1,12 +1,9 @@
 // The names of a written schema.
-ghost use Rattle.std.specs.Prelude.{◌≡◌, ◌++◌, map, IfOk};
+ghost use Rattle.std.specs.Prelude.{◌≡◌, map};
 ghost use Rattle.std.specs.List.{list_all};
 ghost use Rattle.tda_schema.specs.Names as spec;
 
 use crate::raw::{RawAttribute, RawLevel, RawQuery, RawRecode, RawSchema};
-use indexmap::IndexSet;
-use std::alloc::Global;
-use tda_io::NoMemory;
 
 const NAME_LIMIT: usize = 32;
 
@@ -85,103 +82,4 @@ pub(crate) fn has_names(schema: &RawSchema<'_>) -> bool
     attributes_have_names(&schema.attributes)
         && recodes_have_names(&schema.recodes)
         && levels_have_names(&schema.levels)
-}
-
-// Whether no two texts are equal.
-fn are_distinct(alloc: Global, texts: &[&str]) -> Result<bool, NoMemory>
-    ensures { IfOk result (λ b. b ≡ spec.are_distinct (map (λ t. t.now) texts.now)) }
-{
-    let mut seen = IndexSet::new(alloc);
-    for text in texts {
-        if !seen.insert(*text)? {
-            return Ok(false);
-        }
-    }
-    Ok(true)
-}
-
-fn attributes_are_distinct(alloc: Global, attributes: &[RawAttribute<'_>]) -> Result<bool, NoMemory>
-    ensures { IfOk result (λ b. b ≡ list_all spec.attribute_is_distinct attributes.now) }
-{
-    for attribute in attributes {
-        if !are_distinct(alloc, &attribute.values)? {
-            return Ok(false);
-        }
-    }
-    Ok(true)
-}
-
-fn query_names<'a>(alloc: Global, queries: &[RawQuery<'a>]) -> Result<Vec<&'a str>, NoMemory>
-    ensures { IfOk result (λ v. map (λ t. t.now) v.items ≡ map (λ q. q.name) queries.now) }
-{
-    let mut names = Vec::new(alloc);
-    for query in queries {
-        names.push(query.name)?;
-    }
-    Ok(names)
-}
-
-fn levels_are_distinct(alloc: Global, levels: &[RawLevel<'_>]) -> Result<bool, NoMemory>
-    ensures { IfOk result (λ b. b ≡ list_all spec.level_is_distinct levels.now) }
-{
-    for level in levels {
-        let names = query_names(alloc, &level.queries)?;
-        if !are_distinct(alloc, &names)? {
-            return Ok(false);
-        }
-    }
-    Ok(true)
-}
-
-fn level_names<'a>(alloc: Global, levels: &[RawLevel<'a>]) -> Result<Vec<&'a str>, NoMemory>
-    ensures { IfOk result (λ v. map (λ t. t.now) v.items ≡ map (λ l. l.name) levels.now) }
-{
-    let mut names = Vec::new(alloc);
-    for level in levels {
-        names.push(level.name)?;
-    }
-    Ok(names)
-}
-
-// The names of attributes.
-fn attribute_names<'a>(
-    alloc: Global,
-    attributes: &[RawAttribute<'a>],
-) -> Result<Vec<&'a str>, NoMemory>
-    ensures { IfOk result (λ v. map (λ t. t.now) v.items ≡ map (λ a. a.name) attributes.now) }
-{
-    let mut names = Vec::new(alloc);
-    for attribute in attributes {
-        names.push(attribute.name)?;
-    }
-    Ok(names)
-}
-
-// The names of attributes and recodes.
-fn column_names<'a>(
-    alloc: Global,
-    attributes: &[RawAttribute<'a>],
-    recodes: &[RawRecode<'a>],
-) -> Result<Vec<&'a str>, NoMemory>
-    ensures { IfOk result (λ v. map (λ t. t.now) v.items ≡ map (λ a. a.name) attributes.now ++ map (λ r. r.name) recodes.now) }
-{
-    let mut names = attribute_names(alloc, attributes)?;
-    for recode in recodes {
-        names.push(recode.name)?;
-    }
-    Ok(names)
-}
-
-/// Whether no name stands twice where names have to differ.
-pub(crate) fn is_distinct(alloc: Global, schema: &RawSchema<'_>) -> Result<bool, NoMemory>
-    ensures { IfOk result (λ b. b ≡ spec.is_distinct schema.now) }
-{
-    let columns = column_names(alloc, &schema.attributes, &schema.recodes)?;
-    let levels = level_names(alloc, &schema.levels)?;
-    Ok(
-        are_distinct(alloc, &columns)?
-            && attributes_are_distinct(alloc, &schema.attributes)?
-            && are_distinct(alloc, &levels)?
-            && levels_are_distinct(alloc, &schema.levels)?,
-    )
 }

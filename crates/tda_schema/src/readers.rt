@@ -1,92 +1,80 @@
 // What a schema says, and its readers.
-ghost use Rattle.std.specs.Prelude.{◌≡◌, ◌<◌, ◌≤◌, true, length, map, position, option_map, Some, slice_get, slice_index, string_bytes, EachIndex};
+ghost use Rattle.std.specs.Prelude.{◌≡◌, ◌<◌, ◌≤◌, ◌*◌, ◌^◌, true, [], All, length, map, position, sum_by, option_map, Some, slice_get, slice_index, string_bytes, EachIndex};
+ghost use Rattle.std.specs.List.{AllPass};
 ghost use Rattle.std.specs.Str.{bytes_eq};
+ghost use Rattle.tda_frac.specs.Fraction.{IsAtMost};
 ghost use Rattle.tda_model.specs.Cells.{cell_count, values_in, is_possible, kind_of};
-ghost use Rattle.tda_model.specs.Groups.{kind_count};
+ghost use Rattle.tda_model.specs.Groups.{kind_count, classes_of, LevelIsNested};
 ghost use Rattle.tda_model.specs.Sizes.{groups_at, places_at};
 ghost use Rattle.tda_model.specs.Bounds.{HasKinds};
+ghost use Rattle.tda_model.specs.Deviation.{weight_of};
 ghost use Rattle.tda_io.specs.Texts.{name_test};
-ghost use Rattle.tda_schema.specs.Names.{are_distinct};
+ghost use Rattle.tda_schema.specs.Names.{is_name, are_distinct};
 ghost use Rattle.tda_schema.specs.Readers.{values_of, IsWithinLimits};
+ghost use Rattle.tda_schema.specs.Parts.{level_parts, query_parts, ArePartsOf};
+ghost use Rattle.tda_schema.specs.Shares.{common_of, spent_of, frac_of, queries_of, IsLeastCommon};
+ghost use Rattle.tda_schema.specs.Stated.{fraction_of, level_at, queries_at, query_at, class_of, IsQueryOf};
+ghost use Rattle.tda_schema.specs.Kept.{IsQueryKept};
 
+use crate::parts::{LevelParts, Parts, QueryParts};
+use crate::shares;
+use crate::stated::{Attribute, Query, Stated};
 use std::marker::Model;
+use tda_frac::Frac;
 
-// So far there is one cell, so all possible cells and those of the one kind are one group, and there is no query.
-const GROUPS: u32 = 1;
-
-const PLACES: u64 = 0;
-
-#[derive(Debug, Drop)]
-pub(crate) struct Attribute {
-    pub(crate) name: String,
-    pub(crate) values: Vec<String>,
-}
-
-impl Model for Attribute {
-    ghost use Rattle.std.specs.Prelude.{map, string_bytes};
-    ghost use Rattle.tda_model.specs.Schema as model;
-
-    ghost Value = { model.Attribute };
-
-    ghost view = { λ a. record { name = string_bytes a.name; values = map string_bytes a.values.items } };
-}
-
-// Where a text stands among texts.
-fn position_in(texts: &[String], bytes: &[u8]) -> Option<usize>
-    ensures { result ≡ position (λ t. bytes_eq (string_bytes t) bytes.now) texts.now }
-{
-    texts.iter().position(|text| text.as_bytes() == bytes)
-}
-
-impl Attribute {
-    fn find(&self, bytes: &[u8]) -> Option<usize>
-        ensures { result ≡ position (λ v. bytes_eq v bytes.now) self.now.values }
-    {
-        position_in(&self.values, bytes)
-    }
-}
-
-#[derive(Debug, Drop)]
-pub(crate) struct Level {
-    pub(crate) name: String,
-}
-
-impl Model for Level {
-    ghost use Rattle.std.specs.Prelude.{[], string_bytes};
-    ghost use Rattle.tda_model.specs.Schema as model;
-
-    ghost Value = { model.Level };
-
-    ghost view = { λ l. record { name = string_bytes l.name; queries = [] } };
-}
-
-/// What a schema says: attributes, each with its values, of which the first is the kind of quarters, and levels from
-/// the nation to the block. Attributes, values, cells, kinds and levels are numbered from 0.
+/// What a schema says: attributes, each with its values, of which the first is the kind of quarters; which cells are
+/// possible; levels from the nation to the block, each with its queries and their shares. Attributes, values, cells,
+/// kinds, levels and queries are numbered from 0.
 #[derive(Debug, Drop)]
 pub struct Schema {
-    pub(crate) attributes: Vec<Attribute>,
-    pub(crate) levels: Vec<Level>,
-    pub(crate) cells: u32,
+    pub(crate) stated: Stated,
+    pub(crate) common: u64,
+    pub(crate) spent: Frac,
+    pub(crate) parts: Parts,
 }
 
 impl Model for Schema {
     ghost use Rattle.tda_model.specs.Schema as model;
-    ghost use Rattle.tda_schema.specs.Readers.{plain_schema, IsKept};
+    ghost use Rattle.tda_schema.specs.Whole.{IsWhole};
 
     ghost Value = { model.Schema };
 
-    ghost view = { λ s. plain_schema s.attributes.items s.levels.items };
+    ghost view = { λ s. s.stated };
 
-    ghost invariant = { λ s. IsKept (plain_schema s.attributes.items s.levels.items) s.cells };
+    ghost invariant = { λ s. IsWhole s.stated s.common s.spent s.parts };
 }
 
 impl Schema {
+    fn stated(&self) -> &Stated
+        ensures value { result.now ≡ self.now }
+        ensures limits { IsWithinLimits self.now }
+    {
+        &self.stated
+    }
+
+    fn parts(&self) -> &Parts
+        ensures value { ArePartsOf self.now result.now }
+        ensures limits { IsWithinLimits self.now }
+    {
+        &self.parts
+    }
+
     /// How many attributes there are: 1 to 8.
     pub fn attributes(&self) -> usize
         ensures count { result ≡ length self.now.attributes }
         ensures limits { IsWithinLimits self.now }
     {
-        self.attributes.len()
+        self.stated.attributes.len()
+    }
+
+    // An attribute.
+    fn attribute(&self, a: usize) -> &Attribute
+        requires { a < length self.now.attributes }
+        ensures value { slice_get self.now.attributes a ≡ Some result.now }
+        ensures few { length result.now.values ≤ 128 }
+        ensures named { AllPass is_name result.now.values }
+    {
+        &self.stated.attributes[a]
     }
 
     /// The name of an attribute, of 1 to 32 bytes.
@@ -95,7 +83,7 @@ impl Schema {
         ensures value { option_map (λ x. x.name) (slice_get self.now.attributes a) ≡ Some result.now }
         ensures name { name_test 32 result.now ≡ true }
     {
-        self.attributes[a].name.as_str()
+        self.stated.attributes[a].name.as_str()
     }
 
     /// How many values an attribute has: 1 to 128.
@@ -105,7 +93,7 @@ impl Schema {
         ensures some { 1 ≤ result }
         ensures limit { result ≤ 128 }
     {
-        self.attributes[a].values.len()
+        self.stated.attributes[a].values.len()
     }
 
     /// The text of a value of an attribute, of 1 to 32 bytes.
@@ -115,7 +103,7 @@ impl Schema {
         ensures value { slice_get (values_of self.now a) v ≡ Some result.now }
         ensures name { name_test 32 result.now ≡ true }
     {
-        self.attributes[a].values[usize::from(v)].as_str()
+        self.attribute(a).value(usize::from(v))
     }
 
     /// The number of the value of an attribute that has this text, if there is one.
@@ -123,7 +111,7 @@ impl Schema {
         requires { a < length self.now.attributes }
         ensures { result ≡ position (λ v. bytes_eq v bytes.now) (values_of self.now a) }
     {
-        match self.attributes[a].find(bytes) {
+        match self.attribute(a).find(bytes) {
             Some(v) => Some(v as u16),
             None => None,
         }
@@ -134,7 +122,7 @@ impl Schema {
         ensures count { result ≡ cell_count self.now }
         ensures limits { IsWithinLimits self.now }
     {
-        self.cells
+        self.parts().possible.len() as u32
     }
 
     /// The cell of these values, one of each attribute in order.
@@ -145,7 +133,7 @@ impl Schema {
         ensures values { values_in self.now.attributes result ≡ values.now }
     {
         let mut cell = 0;
-        for (attribute, value) in self.attributes.iter().zip(values) {
+        for (attribute, value) in self.stated().attributes.iter().zip(values) {
             cell = cell * attribute.values.len() as u32 + u32::from(*value);
         }
         cell
@@ -157,7 +145,7 @@ impl Schema {
         ensures limit { result ≤ 128 }
         ensures each_has_a_cell { HasKinds self.now }
     {
-        self.attributes[0].values.len() as u16
+        self.stated.attributes[0].values.len() as u16
     }
 
     /// The kind of a cell: its value of the first attribute.
@@ -166,7 +154,7 @@ impl Schema {
         ensures kind { result ≡ kind_of self.now cell }
         ensures in_range { result < kind_count self.now }
     {
-        let cells_of_kind = self.cells / u32::from(self.kinds());
+        let cells_of_kind = self.cells() / u32::from(self.kinds());
         (cell / cells_of_kind) as u16
     }
 
@@ -175,7 +163,7 @@ impl Schema {
         requires { cell < cell_count self.now }
         ensures { result ≡ is_possible self.now cell }
     {
-        cell < self.cells
+        self.parts().possible[cell as usize]
     }
 
     /// How many levels there are: 2 to 7, of different names.
@@ -184,7 +172,7 @@ impl Schema {
         ensures limits { IsWithinLimits self.now }
         ensures distinct { are_distinct (map (λ l. l.name) self.now.levels) ≡ true }
     {
-        self.levels.len()
+        self.stated.levels.len()
     }
 
     /// The name of a level, of 1 to 32 bytes.
@@ -193,26 +181,149 @@ impl Schema {
         ensures value { option_map (λ l. l.name) (slice_get self.now.levels level) ≡ Some result.now }
         ensures name { name_test 32 result.now ≡ true }
     {
-        self.levels[level].name.as_str()
+        self.stated.levels[level].name.as_str()
     }
 
     /// The number of the level of this name, if there is one.
     pub fn find_level(&self, bytes: &[u8]) -> Option<usize>
         ensures { result ≡ position (λ l. bytes_eq l.name bytes.now) self.now.levels }
     {
-        self.levels
+        self.stated
+            .levels
             .iter()
             .position(|level| level.name.as_bytes() == bytes)
     }
 
-    /// How many groups each unit of a level has: sets of possible cells, equal sets counted once.
+    /// How many queries a level has: at most 8. Each is over all possible cells.
+    pub fn queries(&self, level: usize) -> usize
+        requires { level < length self.now.levels }
+        ensures count { result ≡ length (queries_at self.now level) }
+        ensures limit { result ≤ 8 }
+        ensures over_all { All (λ q. q.only ≡ []) (queries_at self.now level) }
+        ensures known { All (IsQueryOf self.now) (queries_at self.now level) }
+    {
+        self.stated.levels[level].queries.len()
+    }
+
+    // A query of a level.
+    fn query(&self, level: usize, query: usize) -> &Query
+        requires level { level < length self.now.levels }
+        requires query { query < length (queries_at self.now level) }
+        ensures value { result.now ≡ query_at self.now level query }
+        ensures kept { IsQueryKept self.now (query_at self.now level query) }
+    {
+        &self.stated.levels[level].queries[query]
+    }
+
+    /// The name of a query of a level, of 1 to 32 bytes.
+    pub fn query_name(&self, level: usize, query: usize) -> &str
+        requires level { level < length self.now.levels }
+        requires query { query < length (queries_at self.now level) }
+        ensures value { result.now ≡ (query_at self.now level query).name }
+        ensures name { name_test 32 result.now ≡ true }
+    {
+        self.query(level, query).name.as_str()
+    }
+
+    /// The share of a query of a level: above 0 and at most 16, with a denominator of at most 2^20.
+    pub fn share(&self, level: usize, query: usize) -> Frac
+        requires level { level < length self.now.levels }
+        requires query { query < length (queries_at self.now level) }
+        ensures value { fraction_of result ≡ (query_at self.now level query).share }
+        ensures some { 1 ≤ result.num }
+        ensures limit { result.num ≤ 16 * result.den }
+        ensures denominator { result.den ≤ 2 ^ 20 }
+    {
+        self.query(level, query).share
+    }
+
+    /// How many common parts the share of a query of a level is: 1 to 2^24.
+    pub fn weight(&self, level: usize, query: usize) -> u64
+        requires level { level < length self.now.levels }
+        requires query { query < length (queries_at self.now level) }
+        ensures value { result ≡ weight_of (common_of self.now) (query_at self.now level query) }
+        ensures exact { result * (query_at self.now level query).share.den ≡ (query_at self.now level query).share.num * common_of self.now }
+        ensures some { 1 ≤ result }
+        ensures limit { result ≤ 2 ^ 24 }
+    {
+        shares::weight(self.share(level, query), self.common)
+    }
+
+    /// The least common multiple of the denominators of all shares, 1 without queries: 1 to 2^20. A share is so many of
+    /// these parts.
+    pub fn common(&self) -> u64
+        ensures value { result ≡ common_of self.now }
+        ensures least { IsLeastCommon (queries_of self.now) result }
+        ensures some { 1 ≤ result }
+        ensures limit { result ≤ 2 ^ 20 }
+    {
+        self.common
+    }
+
+    /// The most that all shares together may be: at most 16, with a denominator of at most 2^20.
+    pub fn total(&self) -> Frac
+        ensures value { fraction_of result ≡ self.now.total }
+        ensures limit { result.num ≤ 16 * result.den }
+        ensures denominator { result.den ≤ 2 ^ 20 }
+    {
+        self.stated.total
+    }
+
+    /// The exact sum of all shares, which is at most the total.
+    pub fn spent(&self) -> Frac
+        ensures value { fraction_of result ≡ spent_of self.now }
+        ensures within { IsAtMost result (frac_of self.now.total) }
+        ensures weights { result.num * common_of self.now ≡ sum_by (weight_of (common_of self.now)) (queries_of self.now) * result.den }
+    {
+        self.spent
+    }
+
+    // What a level comes to.
+    fn level_parts(&self, level: usize) -> &LevelParts
+        requires { level < length self.now.levels }
+        ensures value { result.now ≡ level_parts self.now (level_at self.now level) }
+        ensures nested { LevelIsNested self.now (level_at self.now level) }
+    {
+        &self.parts.levels[level]
+    }
+
+    // The classes of a query of a level.
+    fn query_parts(&self, level: usize, query: usize) -> &QueryParts
+        requires level { level < length self.now.levels }
+        requires query { query < length (queries_at self.now level) }
+        ensures { result.now ≡ query_parts self.now (query_at self.now level query) }
+    {
+        &self.level_parts(level).queries[query]
+    }
+
+    /// The classes of a query of a level by their first possible cells, ascending.
+    pub fn classes(&self, level: usize, query: usize) -> &[u32]
+        requires level { level < length self.now.levels }
+        requires query { query < length (queries_at self.now level) }
+        ensures value { result.now ≡ classes_of self.now (query_at self.now level query) }
+        ensures limit { length result.now ≤ cell_count self.now }
+    {
+        &self.query_parts(level, query).classes
+    }
+
+    /// The class of a possible cell in a query of a level, by the first possible cell of the class.
+    pub fn class_of(&self, level: usize, query: usize, cell: u32) -> u32
+        requires level { level < length self.now.levels }
+        requires query { query < length (queries_at self.now level) }
+        requires possible { is_possible self.now cell ≡ true }
+        ensures { result ≡ class_of self.now (query_at self.now level query) cell }
+    {
+        self.query_parts(level, query).class_of[cell as usize].unwrap()
+    }
+
+    /// How many groups each unit of a level has: sets of possible cells, equal sets counted once. Any two are apart, or
+    /// one holds the other.
     pub fn groups(&self, level: usize) -> u32
         requires { level < length self.now.levels }
-        ensures { result ≡ groups_at self.now level }
+        ensures count { result ≡ groups_at self.now level }
+        ensures nested { LevelIsNested self.now (level_at self.now level) }
     {
-        // What a schema keeps says that it is thin.
-        let _ = &self.levels;
-        GROUPS
+        self.level_parts(level).groups
     }
 
     /// How many places each unit of a level has: one for each class of each query.
@@ -220,8 +331,6 @@ impl Schema {
         requires { level < length self.now.levels }
         ensures { result ≡ places_at self.now level }
     {
-        // What a schema keeps says that it is thin.
-        let _ = &self.levels;
-        PLACES
+        self.level_parts(level).places
     }
 }

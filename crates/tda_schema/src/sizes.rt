@@ -1,4 +1,4 @@
-// How many there are of each in a written schema, and whether it is one that is read yet.
+// How many there are of each in a written schema.
 ghost use Rattle.std.specs.Prelude.{◌≡◌, option_copied, IsTrue};
 ghost use Rattle.std.specs.List.{list_all};
 ghost use Rattle.tda_model.specs.Cells.{cells_in};
@@ -55,7 +55,8 @@ fn cells_have_size(attributes: &[RawAttribute<'_>]) -> bool
     true
 }
 
-fn attribute_named<'a, 'b>(
+/// The attribute of a name.
+pub(crate) fn attribute_named<'a, 'b>(
     attributes: &'a [RawAttribute<'b>],
     name: &str,
 ) -> Option<&'a RawAttribute<'b>>
@@ -94,36 +95,4 @@ pub(crate) fn has_sizes(schema: &RawSchema<'_>) -> bool
         && levels_have_sizes(&schema.levels)
         && cells_have_size(&schema.attributes)
         && recodes_have_sizes(&schema.attributes, &schema.recodes)
-}
-
-fn has_one_value(attributes: &[RawAttribute<'_>]) -> bool
-    ensures { result ≡ spec.has_one_value attributes.now }
-{
-    match attributes {
-        [attribute] => attribute.values.len() == 1,
-        _ => false,
-    }
-}
-
-fn counts_nothing(level: &RawLevel<'_>) -> bool
-    ensures { result ≡ spec.counts_nothing level.now }
-{
-    level.queries.len() == 0
-}
-
-fn count_nothing(levels: &[RawLevel<'_>]) -> bool
-    ensures { result ≡ list_all spec.counts_nothing levels.now }
-{
-    levels.iter().all(|level| counts_nothing(level))
-}
-
-/// Whether there is one attribute with one value, no recode, no zero row, no query, and the total `1`.
-pub(crate) fn is_thin(schema: &RawSchema<'_>) -> bool
-    ensures { result ≡ spec.is_thin schema.now }
-{
-    has_one_value(&schema.attributes)
-        && schema.recodes.len() == 0
-        && schema.zeros.len() == 0
-        && count_nothing(&schema.levels)
-        && schema.total == "1"
 }

@@ -1,5 +1,5 @@
-// Which documents are schemas so far, and each reader once.
-use crate::{SchemaFault, read_schema};
+// Each reader once.
+use crate::read_schema;
 use std::test::Fail;
 
 const ONE_CELL: &str = r#"
@@ -20,147 +20,6 @@ name = "state"
 name = "block"
 "#;
 
-// Documents, and whether each is read.
-const DOCUMENTS: [(&str, bool); 32] = [
-    (ONE_CELL, true),
-    (
-        "version = 1\ntotal = '1'\nattribute = [{name = 'k', values = ['h']}]\nlevel = [{name = 'n'}, {name = 'b'}]",
-        true,
-    ),
-    (
-        "version = 0x1\ntotal = '1'\nattribute = [{name = 'k', values = ['h']}]\nlevel = [{name = 'n'}, {name = 'b'}]\nrecode = []\nzero = []",
-        true,
-    ),
-    (
-        "version = 1\ntotal = '1'\nattribute = [{name = 'k', values = ['h']}]\nlevel = [{name = 'n', query = []}, {name = 'b'}]",
-        true,
-    ),
-    (
-        "version = 1\ntotal = '1'\nattribute = [{name = 'k', values = ['k']}]\nlevel = [{name = 'k'}, {name = 'b'}]",
-        true,
-    ),
-    (
-        "version = 1\ntotal = '1'\nattribute = [{name = 'k', values = ['h']}]\nlevel = [{name = '1'}, {name = '2'}, {name = '3'}, {name = '4'}, {name = '5'}, {name = '6'}, {name = '7'}]",
-        true,
-    ),
-    (
-        "version = 1\ntotal = '1'\nattribute = [{name = 'k', values = ['h']}]\nlevel = [{name = 'a23456789.123456789-123456789_1+'}, {name = 'b'}]",
-        true,
-    ),
-    ("", false),
-    ("version =", false),
-    (
-        "version = 1\ntotal = '1'\nattribute = [{name = 'k', values = ['h']}]",
-        false,
-    ),
-    (
-        "version = 1\nattribute = [{name = 'k', values = ['h']}]\nlevel = [{name = 'n'}, {name = 'b'}]",
-        false,
-    ),
-    (
-        "version = 1\ntotal = '1'\nattribute = [{name = 'k'}]\nlevel = [{name = 'n'}, {name = 'b'}]",
-        false,
-    ),
-    (
-        "version = 1\ntotal = '1'\nattribute = [{name = 'k', values = ['h']}]\nlevel = [{name = 'n'}, {}]",
-        false,
-    ),
-    (
-        "version = 1\ntotal = '1'\nattribute = [{name = 'k', values = ['h']}]\nlevel = [{name = 'n'}, {name = 'b'}]\nlevels = []",
-        false,
-    ),
-    (
-        "version = 1\ntotal = '1'\nattribute = [{name = 'k', values = ['h']}]\nlevel = [{name = 'n'}, {name = 'b', queries = []}]",
-        false,
-    ),
-    (
-        "version = 2\ntotal = '1'\nattribute = [{name = 'k', values = ['h']}]\nlevel = [{name = 'n'}, {name = 'b'}]",
-        false,
-    ),
-    (
-        "version = '1'\ntotal = '1'\nattribute = [{name = 'k', values = ['h']}]\nlevel = [{name = 'n'}, {name = 'b'}]",
-        false,
-    ),
-    (
-        "version = 1\ntotal = 1\nattribute = [{name = 'k', values = ['h']}]\nlevel = [{name = 'n'}, {name = 'b'}]",
-        false,
-    ),
-    (
-        "version = 1\ntotal = '1/1'\nattribute = [{name = 'k', values = ['h']}]\nlevel = [{name = 'n'}, {name = 'b'}]",
-        false,
-    ),
-    (
-        "version = 1\ntotal = '1'\nattribute = {name = 'k', values = ['h']}\nlevel = [{name = 'n'}, {name = 'b'}]",
-        false,
-    ),
-    (
-        "version = 1\ntotal = '1'\nattribute = []\nlevel = [{name = 'n'}, {name = 'b'}]",
-        false,
-    ),
-    (
-        "version = 1\ntotal = '1'\nattribute = [{name = 'k', values = ['h', 'g']}]\nlevel = [{name = 'n'}, {name = 'b'}]",
-        false,
-    ),
-    (
-        "version = 1\ntotal = '1'\nattribute = [{name = 'k', values = []}]\nlevel = [{name = 'n'}, {name = 'b'}]",
-        false,
-    ),
-    (
-        "version = 1\ntotal = '1'\nattribute = [{name = 'k', values = ['h']}, {name = 's', values = ['m']}]\nlevel = [{name = 'n'}, {name = 'b'}]",
-        false,
-    ),
-    (
-        "version = 1\ntotal = '1'\nattribute = [{name = 'k', values = ['h']}]\nlevel = [{name = 'n'}]",
-        false,
-    ),
-    (
-        "version = 1\ntotal = '1'\nattribute = [{name = 'k', values = ['h']}]\nlevel = [{name = '1'}, {name = '2'}, {name = '3'}, {name = '4'}, {name = '5'}, {name = '6'}, {name = '7'}, {name = '8'}]",
-        false,
-    ),
-    (
-        "version = 1\ntotal = '1'\nattribute = [{name = 'k', values = ['h']}]\nlevel = [{name = 'n'}, {name = 'b'}, {name = 'n'}]",
-        false,
-    ),
-    (
-        "version = 1\ntotal = '1'\nattribute = [{name = 'k', values = ['h']}]\nlevel = [{name = '-'}, {name = 'b'}]",
-        false,
-    ),
-    (
-        "version = 1\ntotal = '1'\nattribute = [{name = 'k', values = ['h']}]\nlevel = [{name = 'a23456789.123456789-123456789_1+4'}, {name = 'b'}]",
-        false,
-    ),
-    (
-        "version = 1\ntotal = '1'\nattribute = [{name = 'k', values = ['h']}]\nlevel = [{name = 'n'}, {name = 'b'}]\nrecode = [{name = 'r', of = 'k', map = ['l']}]",
-        false,
-    ),
-    (
-        "version = 1\ntotal = '1'\nattribute = [{name = 'k', values = ['h']}]\nlevel = [{name = 'n'}, {name = 'b'}]\nzero = [{}]",
-        false,
-    ),
-    (
-        "version = 1\ntotal = '1'\nattribute = [{name = 'k', values = ['h']}]\nlevel = [{name = 'n', query = [{name = 'q', by = [], share = '1'}]}, {name = 'b'}]",
-        false,
-    ),
-];
-
-#[test]
-fn reads_thin_documents(rt: HostRuntime) {
-    for (number, (text, accepted)) in DOCUMENTS.iter().enumerate() {
-        assert!(rt; text.len() <= 1000);
-        match read_schema(rt.alloc(), text.as_bytes()) {
-            Ok(_) => assert!(rt; *accepted, "document {number} is read"),
-            Err(fault) => {
-                assert!(rt; !*accepted, "document {number} is refused");
-                assert_eq!(rt; fault, SchemaFault::NotYet);
-            }
-        }
-    }
-    assert_eq!(rt;
-        read_schema(rt.alloc(), &[0xff]).err(),
-        Some(SchemaFault::NotYet)
-    );
-}
-
 #[test]
 fn tells_what_a_schema_says(rt: HostRuntime) -> Result<(), Fail> {
     let schema = read_schema(rt.alloc(), ONE_CELL.as_bytes())?;
@@ -179,6 +38,7 @@ fn tells_what_a_schema_says(rt: HostRuntime) -> Result<(), Fail> {
     for (level, name) in ["nation", "state", "block"].iter().enumerate() {
         assert_eq!(rt; schema.level_name(level), *name);
         assert_eq!(rt; schema.find_level(name.as_bytes()), Some(level));
+        assert_eq!(rt; schema.queries(level), 0);
         assert_eq!(rt; schema.groups(level), 1);
         assert_eq!(rt; schema.places(level), 0);
     }

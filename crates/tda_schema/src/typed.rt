@@ -16,7 +16,7 @@ fn string_of(value: &Value) -> Result<&str, SchemaFault>
 {
     match value.as_str() {
         Some(text) => Ok(text),
-        None => Err(SchemaFault::NotYet),
+        None => Err(SchemaFault::WrongType),
     }
 }
 
@@ -25,7 +25,7 @@ fn table_of(value: &Value) -> Result<&Table, SchemaFault>
 {
     match value.as_table() {
         Some(table) => Ok(table),
-        None => Err(SchemaFault::NotYet),
+        None => Err(SchemaFault::WrongType),
     }
 }
 
@@ -41,7 +41,7 @@ fn member_at<'a>(table: &'a Table, key: &str) -> Result<&'a Value, SchemaFault>
 {
     match get(table, key) {
         Some(value) => Ok(value),
-        None => Err(SchemaFault::NotYet),
+        None => Err(SchemaFault::MissingKey),
     }
 }
 
@@ -51,7 +51,7 @@ fn version_of(value: &Value) -> Result<(), SchemaFault>
 {
     match value.as_integer() {
         Some(1) => Ok(()),
-        _ => Err(SchemaFault::NotYet),
+        _ => Err(SchemaFault::WrongType),
     }
 }
 
@@ -59,7 +59,7 @@ fn strings_of(alloc: Global, value: &Value) -> Result<Vec<&str>, SchemaFault>
     ensures { Gives NoMemory (λ v. map (λ s. s.now) v.items) result (spec.list_of spec.string_of (view value.now)) }
 {
     let Some(items) = value.as_array() else {
-        return Err(SchemaFault::NotYet);
+        return Err(SchemaFault::WrongType);
     };
     let mut found = Vec::new(alloc);
     for item in items {
@@ -81,7 +81,7 @@ fn attributes_of(alloc: Global, value: &Value) -> Result<Vec<RawAttribute<'_>>, 
     ensures { Gives NoMemory (λ v. v.items) result (spec.list_of spec.attribute_of (view value.now)) }
 {
     let Some(items) = value.as_array() else {
-        return Err(SchemaFault::NotYet);
+        return Err(SchemaFault::WrongType);
     };
     let mut found = Vec::new(alloc);
     for item in items {
@@ -104,7 +104,7 @@ fn recodes_of(alloc: Global, value: &Value) -> Result<Vec<RawRecode<'_>>, Schema
     ensures { Gives NoMemory (λ v. v.items) result (spec.list_of spec.recode_of (view value.now)) }
 {
     let Some(items) = value.as_array() else {
-        return Err(SchemaFault::NotYet);
+        return Err(SchemaFault::WrongType);
     };
     let mut found = Vec::new(alloc);
     for item in items {
@@ -148,7 +148,7 @@ fn rows_of(alloc: Global, value: &Value) -> Result<Vec<Vec<RawListed<'_>>>, Sche
     ensures { Gives NoMemory (λ v. map (λ r. r.items) v.items) result (spec.list_of spec.row_of (view value.now)) }
 {
     let Some(items) = value.as_array() else {
-        return Err(SchemaFault::NotYet);
+        return Err(SchemaFault::WrongType);
     };
     let mut found = Vec::new(alloc);
     for item in items {
@@ -180,7 +180,7 @@ fn queries_of(alloc: Global, value: &Value) -> Result<Vec<RawQuery<'_>>, SchemaF
     ensures { Gives NoMemory (λ v. v.items) result (spec.list_of spec.query_of (view value.now)) }
 {
     let Some(items) = value.as_array() else {
-        return Err(SchemaFault::NotYet);
+        return Err(SchemaFault::WrongType);
     };
     let mut found = Vec::new(alloc);
     for item in items {
@@ -211,7 +211,7 @@ fn levels_of(alloc: Global, value: &Value) -> Result<Vec<RawLevel<'_>>, SchemaFa
     ensures { Gives NoMemory (λ v. v.items) result (spec.list_of spec.level_of (view value.now)) }
 {
     let Some(items) = value.as_array() else {
-        return Err(SchemaFault::NotYet);
+        return Err(SchemaFault::WrongType);
     };
     let mut found = Vec::new(alloc);
     for item in items {

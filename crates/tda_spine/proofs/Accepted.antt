@@ -1,30 +1,29 @@
 -- An accepted file is a tree of few units, no two of one code, within the limits.
-use Rattle.std.proofs.Common.{◌≡◌, ◌≢◌, ℕ, zero, suc, ◌+◌, ◌*◌, ◌<◌, ◌≤◌, ◌==◌, ◌⊎◌, inl, inr, Bool, true, false, ◌&&◌, ◌||◌, not, nat_lt, cond, List, [], ◌∷◌, length, get_or, take, map, slice_get, option_and_then, unwrap_or, All, Option, Some, None, refl, sym, ap, subst, ◌∙◌, arith}
-use Rattle.std.specs.List.{list_any}
+use Rattle.std.proofs.Common.{◌≡◌, ◌≢◌, ℕ, zero, suc, ◌+◌, ◌*◌, ◌<◌, ◌≤◌, ◌==◌, ◌⊎◌, inl, inr, Bool, true, false, ◌&&◌, ◌||◌, not, nat_lt, cond, List, [], ◌∷◌, length, get_or, take, map, option_and_then, unwrap_or, Option, Some, None, refl, sym, ap, subst, ◌∙◌, arith}
+use Rattle.std.specs.Option.{option_map}
 use Rattle.std.specs.Str.{bytes_eq}
 use Rattle.std.specs.Cmp.Lexicographic.{bytes_decides}
-use Rattle.std.proofs.lemmas.Bool.{cases_Bool, eqb-true}
+use Rattle.std.proofs.lemmas.Bool.{eqb-true}
 use Rattle.std.proofs.lemmas.Bool.Decides.{nat_tests}
-use Rattle.std.proofs.lemmas.List.{length-map, length-take-le, get_or-take, get_or-map}
+use Rattle.std.proofs.lemmas.List.{length-take-le, get_or-take}
 use Rattle.std.proofs.lemmas.List.Quantifiers.{position-Some}
-use Rattle.std.proofs.lemmas.List.Elements.{All-from_get_or}
 use Rattle.std.proofs.lemmas.List.Folds.{list_any_at}
-use Rattle.std.proofs.lemmas.List.FromFn.{length-range_with_len, get_or-range_with_len}
-use Rattle.std.proofs.lemmas.Option.{slice_get-map, slice_get-get_or}
-use Rattle.tda_io.specs.Csv.{Row, first_fault}
+use Rattle.tda_io.specs.Csv.{Row, first_fault, or_else}
 use Rattle.tda_io.specs.Texts.{name_test}
 use Rattle.tda_model.specs.Schema.{Schema, Level}
 use Rattle.tda_model.specs.Cells.{cell_count}
-use Rattle.tda_model.specs.Spine.{Spine, SpineUnit, IsUnit, IsTree, HasParent, level_of, parent_of, code_of, nation_of, units_at, is_at, is_child, children_of, unit_numbers}
+use Rattle.tda_model.specs.Spine.{Spine, IsUnit, IsTree, HasParent, level_of, parent_of, code_of, nation_of, units_at, is_at, is_child, children_of, unit_numbers, parents_of}
 use Rattle.tda_model.specs.Sizes.{FitSize, fit_size, place_count, units_limit, counts_limit, places_limit, nodes_limit, arcs_limit}
 use Rattle.tda_model.proofs.Sums.{Each, each_filter, filter_each, each_range, range_each}
 use Rattle.tda_spine.specs.Rows.{code_in, level_in, parent_in, is_empty, place_of, parent_place, parent_level, level_named, fits_parent, unit_of, spine_in}
-use Rattle.tda_spine.specs.Judged.{row_fault, has_no_nation, is_inner, is_childless, has_childless, has_too_many, is_too_large, has_large_split, has_large_fit, spine_fault, IsWithinLimits}
-use Rattle.tda_spine.specs.Draft.{ParentIsBelow}
+use Rattle.tda_spine.specs.Judged.{row_fault, has_no_nation, is_inner, is_childless, first_childless, has_too_many, is_too_large, fits_of, first_large_fit, tree_fault, IsWithinLimits}
 use Rattle.tda_spine.specs.Sound.{IsSound}
-use Rattle.tda_spine.specs.declared.fault.SpineFault.TheVariants.{NotYet}
+use Rattle.tda_spine.specs.declared.fault.SpineFault.TheVariants.{NoNation, Childless, TooMany}
 use Rattle.tda_spine.proofs.Places.{place_of-below}
 use Rattle.tda_spine.proofs.Faults.{each_fine}
+use Rattle.tda_spine.proofs.Firsts.{none_found}
+use Rattle.tda_spine.proofs.FitOrder.{each_inner}
+use Rattle.tda_spine.proofs.UnitRows.{many, level_is, parent_is, code_is}
 
 not-false : (b : Bool) → not b ≡ false → b ≡ true
 not-false true e = refl
@@ -48,13 +47,6 @@ then_some : {A B : Type 0} (f : A → Option B) (o : Option A) (y : B) → optio
 then_some f None y e = cc
 then_some f (Some x) y e = (x, refl, e)
 
-parent_place-below : (rows : List Row) (row : Row) (p : ℕ) → parent_place rows row ≡ Some p → p < length rows
-parent_place-below rows row p named = by (is_empty (parent_in row)) named
-  where
-    by : (b : Bool) → cond b None (place_of rows (parent_in row)) ≡ Some p → p < length rows
-    by true e = cc
-    by false e = place_of-below rows (parent_in row) p e
-
 -- a unit has the first level and no parent, or a parent
 abbrev pub IsPlaced : Spine → ℕ → Type 0
 IsPlaced sp u = ((level_of sp u ≡ 0) × (parent_of sp u ≡ None)) ⊎ ((p : ℕ) × HasParent sp u p)
@@ -62,32 +54,6 @@ IsPlaced sp u = ((level_of sp u ≡ 0) × (parent_of sp u ≡ None)) ⊎ ((p : �
 module _ (s : Schema) (rows : List Row) where
   abbrev sp : Spine
   sp = spine_in s rows
-
-  many : length sp.units ≡ length rows
-  many = length-map rows (unit_of s rows)
-
-  unit_is : (u : ℕ) → u < length rows → slice_get sp.units u ≡ Some (unit_of s rows (get_or rows u []))
-  unit_is u here = slice_get-map (unit_of s rows) rows u ∙ ap (λ o. elim o as (λ _. Option SpineUnit) [ Some r ↦ Some (unit_of s rows r) | None ↦ None ]) (slice_get-get_or rows u [] here)
-
-  level_is : (u : ℕ) → u < length rows → level_of sp u ≡ unwrap_or (level_named s (level_in (get_or rows u []))) 0
-  level_is u here = ap (λ o. elim o as (λ _. ℕ) [ Some x ↦ x.level | None ↦ 0 ]) (unit_is u here)
-
-  parent_is : (u : ℕ) → u < length rows → parent_of sp u ≡ parent_place rows (get_or rows u [])
-  parent_is u here = ap (λ o. elim o as (λ _. Option ℕ) [ Some x ↦ x.parent | None ↦ None ]) (unit_is u here)
-
-  code_is : (u : ℕ) → u < length rows → code_of sp u ≡ code_in (get_or rows u [])
-  code_is u here = ap (λ o. elim o as (λ _. List ℕ) [ Some x ↦ x.code | None ↦ [] ]) (unit_is u here)
-
-  abbrev nobody : SpineUnit
-  nobody = record { code = []; level = 0; parent = None }
-
-  -- a parent is one of the units
-  pub parents_below : All (ParentIsBelow (length (map (unit_of s rows) rows))) (map (unit_of s rows) rows)
-  parents_below =
-      All-from_get_or (ParentIsBelow (length (map (unit_of s rows) rows))) (map (unit_of s rows) rows) nobody (λ u within.
-      let here : u < length rows = omega (arith, many, within) in
-      subst (ParentIsBelow (length (map (unit_of s rows) rows))) (sym (get_or-map (unit_of s rows) rows u [] nobody here))
-      (λ p named. let below = parent_place-below rows (get_or rows u []) p named in omega (arith, many, below)))
 
   module _ (none : first_fault (row_fault s rows) [] rows ≡ None) where
     row_fits : (u : ℕ) → u < length rows
@@ -97,24 +63,24 @@ module _ (s : Schema) (rows : List Row) where
 
     placed : (u : ℕ) → IsUnit sp u → IsPlaced sp u
     placed u unit =
-        let here : u < length rows = omega (arith, many, unit) in
+        let here : u < length rows = omega (arith, many s rows, unit) in
         let row = get_or rows u [] in
         elim (row_fits u here) [
           | inl h ↦
-              inl (level_is u here ∙ ap (λ o. unwrap_or o 0) h.0, parent_is u here ∙ ap (λ b. cond b None (place_of rows (parent_in row))) h.1)
+              inl (level_is s rows u here ∙ ap (λ o. unwrap_or o 0) h.0, parent_is s rows u here ∙ ap (λ b. cond b None (place_of rows (parent_in row))) h.1)
           | inr h ↦
               let p = then_some (λ q. level_named s (level_in (get_or rows q []))) (parent_place rows row) h.0 h.3 in
               let at : place_of rows (parent_in row) ≡ Some p.0 = sym (ap (λ b. cond b None (place_of rows (parent_in row))) h.2) ∙ p.1 in
               let there : p.0 < length rows = place_of-below rows (parent_in row) p.0 at in
-              let level : level_of sp u ≡ suc h.0 = level_is u here ∙ ap (λ o. unwrap_or o 0) h.1 in
-              let above : level_of sp p.0 ≡ h.0 = level_is p.0 there ∙ ap (λ o. unwrap_or o 0) p.2 in
-              inr (p.0, record { here = omega (arith, many, there); named = parent_is u here ∙ p.1; above = omega (arith, level, above) })
+              let level : level_of sp u ≡ suc h.0 = level_is s rows u here ∙ ap (λ o. unwrap_or o 0) h.1 in
+              let above : level_of sp p.0 ≡ h.0 = level_is s rows p.0 there ∙ ap (λ o. unwrap_or o 0) p.2 in
+              inr (p.0, record { here = omega (arith, many s rows, there); named = parent_is s rows u here ∙ p.1; above = omega (arith, level, above) })
         ]
 
     pub codes_fit : (u : ℕ) → IsUnit sp u → name_test 16 (code_of sp u) ≡ true
     codes_fit u unit =
-        let here : u < length rows = omega (arith, many, unit) in
-        rw (code_is u here) (not-false _ ((each_fine s rows none u here).code))
+        let here : u < length rows = omega (arith, many s rows, unit) in
+        rw (code_is s rows u here) (not-false _ ((each_fine s rows none u here).code))
 
     row_level : (u : ℕ) → u < length rows → (unit_of s rows (get_or rows u [])).level < length s.levels
     row_level u here =
@@ -128,23 +94,16 @@ module _ (s : Schema) (rows : List Row) where
 
     level_within : (u : ℕ) → IsUnit sp u → level_of sp u < sp.depth
     level_within u unit =
-        let here : u < length rows = omega (arith, many, unit) in
-        omega (arith, level_is u here, row_level u here)
-
-    -- the units are of the schema's levels
-    pub levels_within : All (λ x. x.level < length s.levels) (map (unit_of s rows) rows)
-    levels_within =
-        All-from_get_or (λ x. x.level < length s.levels) (map (unit_of s rows) rows) nobody (λ u within.
-        let here : u < length rows = omega (arith, many, within) in
-        subst (λ x. x.level < length s.levels) (sym (get_or-map (unit_of s rows) rows u [] nobody here)) (row_level u here))
+        let here : u < length rows = omega (arith, many s rows, unit) in
+        omega (arith, level_is s rows u here, row_level u here)
 
     codes_differ : (u v : ℕ) → u < v → IsUnit sp v → code_of sp u ≡ code_of sp v → ⊥
     codes_differ u v before unit same =
-        let here : v < length rows = omega (arith, many, unit) in
+        let here : v < length rows = omega (arith, many s rows, unit) in
         let row = get_or rows v [] in
         let len : length (take v rows) ≡ v = length-take-le v rows (omega arith) in
         let earlier : get_or (take v rows) u [] ≡ get_or rows u [] = get_or-take v rows u [] before in
-        let equal : code_in row ≡ code_in (get_or (take v rows) u []) = sym (code_is v here) ∙ sym same ∙ code_is u (omega arith) ∙ ap code_in (sym earlier) in
+        let equal : code_in row ≡ code_in (get_or (take v rows) u []) = sym (code_is s rows v here) ∙ sym same ∙ code_is s rows u (omega arith) ∙ ap code_in (sym earlier) in
         let test = (bytes_decides (code_in row) (code_in (get_or (take v rows) u []))).1 equal in
         let found = list_any_at (λ e. bytes_eq (code_in row) (code_in e)) (take v rows) u [] (omega (arith, len)) test in
         let never = (each_fine s rows none v here).new in
@@ -184,14 +143,13 @@ module _ (sp : Spine) (placed : (u : ℕ) → IsUnit sp u → IsPlaced sp u) whe
       each_filter _ (is_child sp u) _ (each_range _ 0 (length sp.units) (λ c low high is.
       let unit : IsUnit sp c = omega arith in (unit, child_has u c unit is)))
 
-  some_child : has_childless sp ≡ false → (u : ℕ) → IsUnit sp u → level_of sp u + 1 < sp.depth → HasChild u
+  some_child : first_childless sp ≡ None → (u : ℕ) → IsUnit sp u → level_of sp u + 1 < sp.depth → HasChild u
   some_child none u unit low =
       first_child u (children_of sp u) (children_each u) (λ e.
       let inner : is_inner sp u ≡ true = grind (arith, nat_tests) in
       let empty : (length (children_of sp u) == 0) ≡ true = ap (λ n. n == 0) e in
       let test : is_childless sp u ≡ true = ap (λ b. b && (length (children_of sp u) == 0)) inner ∙ empty in
-      let found = list_any_at (is_childless sp) (unit_numbers sp) u 0 (omega (arith, length-range_with_len 0 (length sp.units), unit))
-      (ap (is_childless sp) (get_or-range_with_len 0 (length sp.units) u 0 unit ∙ omega arith) ∙ test) in
+      let never = range_each (λ v. is_childless sp v ≡ false) 0 (length sp.units) (none_found (is_childless sp) (unit_numbers sp) none) u (omega arith) (omega (arith, unit)) in
       absurd cc)
 
   module _ (one : has_no_nation sp ≡ false) where
@@ -208,7 +166,7 @@ module _ (sp : Spine) (placed : (u : ℕ) → IsUnit sp u → IsPlaced sp u) whe
         range_each _ 0 (length sp.units) (filter_each (λ v. v ≡ nation_of sp) (is_at sp 0) (unit_numbers sp)
         (subst (Each (λ v. v ≡ nation_of sp)) (sym nation_alone) (refl, tt))) u (omega arith) (omega (arith, unit)) (ap (λ l. l == 0) level)
 
-    pub tree_of : 2 ≤ sp.depth → ((u : ℕ) → IsUnit sp u → level_of sp u < sp.depth) → has_childless sp ≡ false → IsTree sp (nation_of sp)
+    pub tree_of : 2 ≤ sp.depth → ((u : ℕ) → IsUnit sp u → level_of sp u < sp.depth) → first_childless sp ≡ None → IsTree sp (nation_of sp)
     tree_of deep within none = record {
       deep = deep;
       root = is_nation.0;
@@ -223,29 +181,27 @@ module _ (sp : Spine) (placed : (u : ℕ) → IsUnit sp u → IsPlaced sp u) whe
 at_most : (n most : ℕ) → nat_lt most n ≡ false → n ≤ most
 at_most n most e = grind (arith, nat_tests)
 
--- a spine without a fault
+-- units that form a tree, and are not too many
 pub record IsFaultless (s : Schema) (sp : Spine) : Type 0 where
   pub nation : has_no_nation sp ≡ false
-  pub children : has_childless sp ≡ false
+  pub children : first_childless sp ≡ None
   pub few : has_too_many s sp ≡ false
-  pub small : has_large_fit s sp ≡ false
 
-pub faultless : (s : Schema) (sp : Spine) → spine_fault s sp ≡ None → IsFaultless s sp
+faultless : (s : Schema) (sp : Spine) → tree_fault s sp ≡ None → IsFaultless s sp
 faultless s sp none =
-    let all = four (has_no_nation sp) (has_childless sp) (has_too_many s sp) (has_large_fit s sp) none in
-    record { nation = all.0; children = all.1; few = all.2; small = all.3 }
+    let all = three (has_no_nation sp) (first_childless sp) (has_too_many s sp) none in
+    record { nation = all.0; children = all.1; few = all.2 }
   where
-    four : (a b c d : Bool)
-        → cond a (Some NotYet) (cond b (Some NotYet) (cond c (Some NotYet) (cond d (Some NotYet) None))) ≡ None
-        → (a ≡ false) × (b ≡ false) × (c ≡ false) × (d ≡ false)
-    four false false false false e = (refl, refl, refl, refl)
-    four true b c d e = cc
-    four false true c d e = cc
-    four false false true d e = cc
-    four false false false true e = cc
+    three : (a : Bool) (o : Option ℕ) (b : Bool)
+        → cond a (Some NoNation) (or_else (option_map Childless o) (cond b (Some TooMany) None)) ≡ None
+        → (a ≡ false) × (o ≡ None) × (b ≡ false)
+    three false None false e = (refl, refl, refl)
+    three true o b e = cc
+    three false (Some u) b e = cc
+    three false None true e = cc
 
 pub sound : (s : Schema) (rows : List Row) → 2 ≤ length s.levels → length s.levels ≤ 7
-    → first_fault (row_fault s rows) [] rows ≡ None → spine_fault s (spine_in s rows) ≡ None → IsSound (spine_in s rows)
+    → first_fault (row_fault s rows) [] rows ≡ None → tree_fault s (spine_in s rows) ≡ None → IsSound (spine_in s rows)
 sound s rows deep shallow rows_fine none =
     let sp = spine_in s rows in
     let fine = faultless s sp none in
@@ -262,35 +218,27 @@ small_size : (size : FitSize) → is_too_large size ≡ false → (size.nodes �
 small_size size e =
     let both = or-false _ _ e in (at_most size.nodes nodes_limit both.0, at_most size.arcs arcs_limit both.1)
 
-pub within_limits : (s : Schema) (rows : List Row) → spine_fault s (spine_in s rows) ≡ None → IsWithinLimits s (spine_in s rows)
-within_limits s rows none =
-    let sp = spine_in s rows in
-    let fine = faultless s sp none in
-    let few = or-false _ _ fine.few in
+pub within_limits : (s : Schema) (sp : Spine) → sp.depth ≡ length s.levels → IsTree sp (nation_of sp) → tree_fault s sp ≡ None → first_large_fit s sp ≡ None
+    → IsWithinLimits s sp
+within_limits s sp deep tree none small =
+    let few = or-false _ _ (faultless s sp none).few in
     let fewer = or-false _ _ few.0 in
-    let fits_small = or-false _ _ fine.small in
-    let root = small_size (fit_size s sp None) fits_small.0 in
-    let split = λ (u : ℕ) (unit : IsUnit sp u) (low : level_of sp u + 1 < sp.depth). small_size (fit_size s sp (Some u)) (each_small s sp fits_small.1 u unit low) in
+    let fits = none_found (λ fit. is_too_large (fit_size s sp fit)) (fits_of sp) small in
+    let root = small_size (fit_size s sp None) fits.0 in
+    let splits = map_each Some (λ fit. is_too_large (fit_size s sp fit) ≡ false) (parents_of sp) fits.1 in
+    let split = λ (u : ℕ) (here : IsUnit sp u) (above : level_of sp u + 1 < sp.depth).
+    small_size (fit_size s sp (Some u)) (each_inner sp tree (λ p. is_too_large (fit_size s sp (Some p)) ≡ false) splits u (record { here = here; above = above })) in
     record {
-      depth = refl;
+      depth = deep;
       units = at_most (length sp.units) units_limit fewer.0;
       counts = at_most (length sp.units * cell_count s) counts_limit fewer.1;
       places = at_most (place_count s sp) places_limit few.1;
       root_nodes = root.0;
       root_arcs = root.1;
-      nodes = λ u unit low. (split u unit low).0;
-      arcs = λ u unit low. (split u unit low).1;
+      nodes = λ u here above. (split u here above).0;
+      arcs = λ u here above. (split u here above).1;
     }
   where
-    each_small : (s : Schema) (sp : Spine) → list_any (has_large_split s sp) (unit_numbers sp) ≡ false
-        → (u : ℕ) → IsUnit sp u → level_of sp u + 1 < sp.depth → is_too_large (fit_size s sp (Some u)) ≡ false
-    each_small s sp none u unit low =
-        elim (cases_Bool (is_too_large (fit_size s sp (Some u)))) [
-          | inl large ↦
-              let inner : is_inner sp u ≡ true = grind (arith, nat_tests) in
-              let test : has_large_split s sp u ≡ true = ap (λ b. b && is_too_large (fit_size s sp (Some u))) inner ∙ large in
-              let found = list_any_at (has_large_split s sp) (unit_numbers sp) u 0 (omega (arith, length-range_with_len 0 (length sp.units), unit))
-              (ap (has_large_split s sp) (get_or-range_with_len 0 (length sp.units) u 0 unit ∙ omega arith) ∙ test) in
-              absurd cc
-          | inr small ↦ small
-        ]
+    map_each : {X Y : Type 0} (f : X → Y) (P : Y → Type 0) (xs : List X) → Each P (map f xs) → Each (λ x. P (f x)) xs
+    map_each f P [] h = tt
+    map_each f P (x ∷ xs) (e, h) = (e, map_each f P xs h)

@@ -4,8 +4,8 @@ use Rattle.std.proofs.lemmas.List.{append-nil}
 use Rattle.tda_io.specs.Csv.{Row, first_fault, or_else}
 use Rattle.tda_model.specs.Schema.{Schema}
 use Rattle.tda_spine.specs.Rows.{is_bad_code, is_repeated, has_unknown_parent, has_wrong_level}
-use Rattle.tda_spine.specs.Judged.{row_fault}
-use Rattle.tda_spine.specs.declared.fault.SpineFault.TheVariants.{NotYet}
+use Rattle.tda_spine.specs.Judged.{row_fault, row_number}
+use Rattle.tda_spine.specs.declared.fault.SpineFault.TheVariants.{BadCode, Repeated, UnknownParent, WrongLevel}
 
 first_none : {F : Type 0} (o p : Option F) → or_else o p ≡ None → o ≡ None
 first_none None p e = refl
@@ -34,17 +34,17 @@ pub record IsFine (s : Schema) (rows earlier : List Row) (row : Row) : Type 0 wh
 
 fine : (s : Schema) (rows earlier : List Row) (row : Row) → row_fault s rows earlier row ≡ None → IsFine s rows earlier row
 fine s rows earlier row none =
-    let all = four (is_bad_code row) (is_repeated earlier row) (has_unknown_parent rows row) (has_wrong_level s rows row) none in
+    let all = four (row_number earlier) (is_bad_code row) (is_repeated earlier row) (has_unknown_parent rows row) (has_wrong_level s rows row) none in
     record { code = all.0; new = all.1; parent = all.2; level = all.3 }
   where
-    four : (a b c d : Bool)
-        → cond a (Some NotYet) (cond b (Some NotYet) (cond c (Some NotYet) (cond d (Some NotYet) None))) ≡ None
+    four : (n : ℕ) (a b c d : Bool)
+        → cond a (Some (BadCode n)) (cond b (Some (Repeated n)) (cond c (Some (UnknownParent n)) (cond d (Some (WrongLevel n)) None))) ≡ None
         → (a ≡ false) × (b ≡ false) × (c ≡ false) × (d ≡ false)
-    four false false false false e = (refl, refl, refl, refl)
-    four true b c d e = cc
-    four false true c d e = cc
-    four false false true d e = cc
-    four false false false true e = cc
+    four n false false false false e = (refl, refl, refl, refl)
+    four n true b c d e = cc
+    four n false true c d e = cc
+    four n false false true d e = cc
+    four n false false false true e = cc
 
 pub each_fine : (s : Schema) (rows : List Row) → first_fault (row_fault s rows) [] rows ≡ None
     → (k : ℕ) → k < length rows → IsFine s rows (take k rows) (get_or rows k [])

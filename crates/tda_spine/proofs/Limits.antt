@@ -1,31 +1,35 @@
 -- How many places the units of a spine have.
-use Rattle.std.proofs.Common.{◌≡◌, ℕ, ◌+◌, ◌<◌, ◌≤◌, ◌^◌, true, false, nat_lt, length, get_or, take, sum_by, Some, None, ap, arith}
+use Rattle.std.proofs.Common.{◌≡◌, ℕ, ◌+◌, ◌<◌, ◌≤◌, ◌^◌, true, false, nat_lt, length, get_or, take, sum_by, ap, ◌∙◌, arith}
 use Rattle.std.proofs.lemmas.Bool.Decides.{nat_tests}
 use Rattle.std.proofs.lemmas.List.{take_all}
-use Rattle.std.proofs.lemmas.List.Sums.{sum_by_more_le}
+use Rattle.std.proofs.lemmas.List.Sums.{sum_by_more, sum_by_more_le}
+use Rattle.std.proofs.lemmas.List.FromFn.{length-range_with_len, get_or-range_with_len}
 use Rattle.tda_model.specs.Schema.{Schema}
-use Rattle.tda_model.specs.Spine.{Spine, SpineUnit}
+use Rattle.tda_model.specs.Spine.{Spine, level_of, unit_numbers}
 use Rattle.tda_model.specs.Sizes.{places_at, place_count, places_limit}
-use Rattle.tda_spine.proofs.Numbers.{sum-numbers}
 
 module _ (s : Schema) (sp : Spine) where
-  abbrev pub places_of : SpineUnit → ℕ
-  places_of x = places_at s x.level
+  abbrev pub places_of : ℕ → ℕ
+  places_of u = places_at s (level_of sp u)
 
-  places-sum : place_count s sp ≡ sum_by places_of sp.units
-  places-sum = sum-numbers sp.units (λ o. places_at s (elim o as (λ _. ℕ) [ Some x ↦ x.level | None ↦ 0 ]))
+  module _ (k left : ℕ) (so_far : left + sum_by places_of (take k (unit_numbers sp)) ≡ 2 ^ 21) where
+    long : length (unit_numbers sp) ≡ length sp.units
+    long = length-range_with_len 0 (length sp.units)
 
-  pub too_many : (k left : ℕ) (x : SpineUnit) → k < length sp.units → x ≡ get_or sp.units k x → left + sum_by places_of (take k sp.units) ≡ 2 ^ 21
-      → left < places_of x → true ≡ nat_lt places_limit (place_count s sp)
-  too_many k left x below is so_far more =
-      let part = sum_by_more_le places_of sp.units k x below in
-      let here = ap places_of is in
-      let over : 2 ^ 21 < place_count s sp = omega (arith, part, here, so_far, more, places-sum) in
-      grind (arith, nat_tests)
+    here : k < length sp.units → places_of (get_or (unit_numbers sp) k 0) ≡ places_of k
+    here below = ap places_of (get_or-range_with_len 0 (length sp.units) k 0 below ∙ omega arith)
 
-  pub not_many : (k left : ℕ) → length sp.units ≤ k → left + sum_by places_of (take k sp.units) ≡ 2 ^ 21
-      → false ≡ nat_lt places_limit (place_count s sp)
-  not_many k left all so_far =
-      let whole = ap (sum_by places_of) (take_all k sp.units all) in
-      let under : place_count s sp ≤ 2 ^ 21 = omega (arith, whole, so_far, places-sum) in
-      grind (arith, nat_tests)
+    pub too_many : k < length sp.units → left < places_of k → true ≡ nat_lt places_limit (place_count s sp)
+    too_many below more =
+        let part = sum_by_more_le places_of (unit_numbers sp) k 0 (omega (arith, long)) in
+        let over : 2 ^ 21 < place_count s sp = omega (arith, part, here below, so_far, more) in
+        grind (arith, nat_tests)
+
+    pub one_more : (next : ℕ) → k < length sp.units → next + places_of k ≡ left → next + sum_by places_of (take (k + 1) (unit_numbers sp)) ≡ 2 ^ 21
+    one_more next below less = omega (arith, sum_by_more places_of (unit_numbers sp) k 0 (omega (arith, long)), here below, so_far, less)
+
+    pub not_many : length sp.units ≤ k → false ≡ nat_lt places_limit (place_count s sp)
+    not_many all =
+        let whole = ap (sum_by places_of) (take_all k (unit_numbers sp) (omega (arith, long))) in
+        let under : place_count s sp ≤ 2 ^ 21 = omega (arith, whole, so_far) in
+        grind (arith, nat_tests)

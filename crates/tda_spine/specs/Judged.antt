@@ -1,24 +1,27 @@
 -- Which files are spines of a schema, and which spine each is: each thing that can be wrong is a test of its own, and they stand in the order in which they are judged.
-use Rattle.std.specs.Prelude.{codes, ◌≡◌, ◌≤◌, ◌<◌, ℕ, ◌+◌, ◌*◌, Bool, ◌&&◌, ◌||◌, ◌==◌, not, List, [], ◌∷◌, length, nat_lt, Option, Some, None, Result, Ok, if◌then◌else◌}
-use Rattle.std.specs.List.{list_any}
+use Rattle.std.specs.Prelude.{codes, ◌≡◌, ◌≤◌, ◌<◌, ℕ, ◌+◌, ◌*◌, Bool, ◌&&◌, ◌||◌, ◌==◌, not, List, [], ◌∷◌, length, map, find, nat_lt, Option, Some, None, option_map, Result, Ok, if◌then◌else◌}
 use Rattle.tda_io.specs.Csv as csv
 use Rattle.tda_io.specs.Due.{◌>>◌, none_of}
-use Rattle.tda_io.specs.Csv.{Row, Format}
+use Rattle.tda_io.specs.Csv.{Row, Format, or_else}
 use Rattle.tda_model.specs.Schema.{Schema}
 use Rattle.tda_model.specs.Cells.{cell_count}
-use Rattle.tda_model.specs.Spine.{Spine, IsUnit, level_of, units_at, children_of, unit_numbers}
+use Rattle.tda_model.specs.Spine.{Spine, IsUnit, level_of, units_at, children_of, parents_of, unit_numbers}
 use Rattle.tda_model.specs.Sizes.{FitSize, fit_size, place_count, units_limit, counts_limit, places_limit, nodes_limit, arcs_limit}
 use Rattle.tda_spine.specs.Rows.{is_bad_code, is_repeated, has_unknown_parent, has_wrong_level, spine_in}
 use Rattle.tda_spine.specs.declared.fault.SpineFault.{SpineFault}
-use Rattle.tda_spine.specs.declared.fault.SpineFault.TheVariants.{NotYet}
+use Rattle.tda_spine.specs.declared.fault.SpineFault.TheVariants.{BadRow, BadHeader, BadCode, Repeated, UnknownParent, WrongLevel, NoNation, Childless, TooMany, FitTooLarge}
+
+-- the number of a row in its file: the rows before it follow the header, which is row 1
+abbrev pub row_number : List Row → ℕ
+row_number earlier = length earlier + 2
 
 -- the fault of a row, beside the rows before it and among all rows
 abbrev pub row_fault : Schema → List Row → List Row → Row → Option SpineFault
 row_fault s rows earlier row =
-    if is_bad_code row then Some NotYet
-    else if is_repeated earlier row then Some NotYet
-    else if has_unknown_parent rows row then Some NotYet
-    else if has_wrong_level s rows row then Some NotYet
+    if is_bad_code row then Some (BadCode (row_number earlier))
+    else if is_repeated earlier row then Some (Repeated (row_number earlier))
+    else if has_unknown_parent rows row then Some (UnknownParent (row_number earlier))
+    else if has_wrong_level s rows row then Some (WrongLevel (row_number earlier))
     else None
 
 -- there is not exactly one unit of the first level
@@ -33,8 +36,9 @@ is_inner sp u = nat_lt (level_of sp u + 1) sp.depth
 abbrev pub is_childless : Spine → ℕ → Bool
 is_childless sp u = is_inner sp u && (length (children_of sp u) == 0)
 
-abbrev pub has_childless : Spine → Bool
-has_childless sp = list_any (is_childless sp) (unit_numbers sp)
+-- the first such unit
+abbrev pub first_childless : Spine → Option ℕ
+first_childless sp = find (is_childless sp) (unit_numbers sp)
 
 -- too many units, units times cells, or places
 abbrev pub has_too_many : Schema → Spine → Bool
@@ -47,23 +51,23 @@ has_too_many s sp =
 abbrev pub is_too_large : FitSize → Bool
 is_too_large size = nat_lt nodes_limit size.nodes || nat_lt arcs_limit size.arcs
 
--- the unit stands above the last level, and the fit of its children is too large
-abbrev pub has_large_split : Schema → Spine → ℕ → Bool
-has_large_split s sp u = is_inner sp u && is_too_large (fit_size s sp (Some u))
+-- the fits in their order: that of the nation, and then for each unit with children that of its children
+abbrev pub fits_of : Spine → List (Option ℕ)
+fits_of sp = None ∷ map Some (parents_of sp)
 
--- the fit of the nation is too large, or that of the children of a unit
-abbrev pub has_large_fit : Schema → Spine → Bool
-has_large_fit s sp =
-    is_too_large (fit_size s sp None) || list_any (has_large_split s sp) (unit_numbers sp)
+-- the first fit that is too large
+abbrev pub first_large_fit : Schema → Spine → Option (Option ℕ)
+first_large_fit s sp = find (λ fit. is_too_large (fit_size s sp fit)) (fits_of sp)
 
--- the fault of a spine as a whole
+-- the fault of units that form no tree, or are too many
+abbrev pub tree_fault : Schema → Spine → Option SpineFault
+tree_fault s sp =
+    if has_no_nation sp then Some NoNation
+    else or_else (option_map Childless (first_childless sp)) (if has_too_many s sp then Some TooMany else None)
+
+-- the fault of a spine as a whole: its fits are judged last
 abbrev pub spine_fault : Schema → Spine → Option SpineFault
-spine_fault s sp =
-    if has_no_nation sp then Some NotYet
-    else if has_childless sp then Some NotYet
-    else if has_too_many s sp then Some NotYet
-    else if has_large_fit s sp then Some NotYet
-    else None
+spine_fault s sp = or_else (tree_fault s sp) (option_map FitTooLarge (first_large_fit s sp))
 
 -- the spine, or its fault
 abbrev pub judged_spine : Schema → Spine → Result Spine SpineFault
@@ -71,8 +75,8 @@ judged_spine s sp = none_of (spine_fault s sp) >> Ok sp
 
 abbrev pub format : Schema → Format SpineFault Spine
 format s = record {
-  bad_row = λ row. NotYet;
-  bad_header = λ row. NotYet;
+  bad_row = BadRow;
+  bad_header = BadHeader;
   header = codes "unit" ∷ codes "level" ∷ codes "parent" ∷ [];
   row_fault = row_fault s;
   file_fault = λ rows. spine_fault s (spine_in s rows);

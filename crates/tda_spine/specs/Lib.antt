@@ -1,4 +1,4 @@
-pub mod Draft
+pub mod Counts
 pub mod Index
 pub mod Indexed
 pub mod Judged

@@ -1,9 +1,9 @@
 -- What an accepted spine keeps, and its lists.
-use Rattle.std.specs.Prelude.{ℕ, true, ◌≡◌, ◌<◌, ◌≤◌, ◌^◌, length, List, map, [], ◌∷◌, ◌++◌, slice_index_or, Option, position, if◌then◌else◌}
+use Rattle.std.specs.Prelude.{ℕ, true, ◌≡◌, ◌+◌, ◌<◌, ◌≤◌, ◌^◌, length, List, map, [], ◌∷◌, ◌++◌, slice_index_or, Option, position, if◌then◌else◌}
 use Rattle.std.specs.List.{range_with_len}
 use Rattle.std.specs.Str.{bytes_eq}
 use Rattle.tda_io.specs.Texts.{name_test}
-use Rattle.tda_model.specs.Spine.{Spine, SpineUnit, IsUnit, IsTree, nation_of, code_of, unit_numbers, is_over, children_of, units_at, blocks_of}
+use Rattle.tda_model.specs.Spine.{Spine, SpineUnit, IsUnit, IsTree, level_of, nation_of, code_of, unit_numbers, is_over, children_of, units_at, blocks_of}
 
 -- the spine of these units
 abbrev pub spine_of : ℕ → List SpineUnit → Spine
@@ -16,6 +16,11 @@ pub record IsSound (sp : Spine) : Type 0 where
   pub coded : (u : ℕ) → IsUnit sp u → name_test 16 (code_of sp u) ≡ true
   pub few : length sp.units ≤ 2 ^ 17
   pub shallow : sp.depth ≤ 7
+
+-- a unit above the last level
+pub record IsInner (sp : Spine) (u : ℕ) : Type 0 where
+  pub here : IsUnit sp u
+  pub above : level_of sp u + 1 < sp.depth
 
 -- the first unit of a code
 abbrev pub unit_named : Spine → List ℕ → Option ℕ

@@ -1,5 +1,5 @@
 // What is wrong with a row of a spine's file.
-ghost use Rattle.std.specs.Prelude.{◌≡◌, ◌<◌, [], length, take, slice_index_or};
+ghost use Rattle.std.specs.Prelude.{◌≡◌, ◌<◌, ◌^◌, [], length, take, slice_index_or};
 ghost use Rattle.tda_io.specs.Csv as csv;
 ghost use Rattle.tda_spine.specs.Judged as judged;
 ghost use Rattle.tda_spine.specs.Rows as spec;
@@ -38,19 +38,21 @@ fn has_wrong_level(schema: &Schema, rows: &SpineRows, row: usize) -> bool
     !fits_parent(level, no_parent, parent_level(schema, rows, row))
 }
 
-// The fault of a row.
+// The fault of a row, told by the row's number in the file.
 fn row_fault(schema: &Schema, rows: &SpineRows, row: usize) -> Option<SpineFault>
-    requires { row < length rows.now }
+    requires few { length rows.now < 2 ^ 30 }
+    requires row { row < length rows.now }
     ensures { result ≡ judged.row_fault schema.now rows.now (take row rows.now) (slice_index_or rows.now row []) }
 {
+    let number = row as u64 + 2;
     if rows.has_bad_code(row) {
-        Some(SpineFault::NotYet)
+        Some(SpineFault::BadCode(number))
     } else if rows.is_repeated(row) {
-        Some(SpineFault::NotYet)
+        Some(SpineFault::Repeated(number))
     } else if rows.has_unknown_parent(row) {
-        Some(SpineFault::NotYet)
+        Some(SpineFault::UnknownParent(number))
     } else if has_wrong_level(schema, rows, row) {
-        Some(SpineFault::NotYet)
+        Some(SpineFault::WrongLevel(number))
     } else {
         None
     }

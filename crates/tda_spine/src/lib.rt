@@ -2,7 +2,6 @@
 #![tactic(auto)]
 
 mod codes;
-mod draft;
 mod fault;
 mod index;
 mod judge;
@@ -14,6 +13,7 @@ mod spine;
 mod tree;
 mod unit;
 mod units;
+mod whole;
 
 pub use fault::SpineFault;
 pub use read::read_spine;

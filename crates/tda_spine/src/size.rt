@@ -2,10 +2,10 @@
 ghost use Rattle.std.specs.Prelude.{◌≡◌, ◌+◌, ◌<◌, ◌≤◌, ◌^◌, None, Some, true, length};
 ghost use Rattle.tda_model.specs.Cells.{possible_cells};
 ghost use Rattle.tda_model.specs.Sizes.{fit_size, root_fit_size, split_size};
-ghost use Rattle.tda_model.specs.Spine.{IsUnit, level_of};
 ghost use Rattle.tda_spine.specs.Judged as spec;
+ghost use Rattle.tda_spine.specs.Sound.{IsInner, IsSound};
 
-use crate::draft::Draft;
+use crate::Spine;
 use tda_schema::Schema;
 
 // The most nodes and arcs of one fit.
@@ -61,54 +61,54 @@ fn count_possible(schema: &Schema) -> u64
     count
 }
 
-// Whether the fit of the nation is too large.
-fn has_large_root(schema: &Schema, draft: &Draft, possible: u64) -> bool
-    requires depth { draft.now.depth ≡ length schema.now.levels }
-    requires possible { possible ≡ length (possible_cells schema.now) }
-    requires few { possible < 2 ^ 32 }
-    ensures { result ≡ spec.is_too_large (fit_size schema.now draft.now None) }
-{
-    // There is a first level.
-    let _ = schema.levels();
-    is_large_root(
-        draft.count_at(1) as u64,
-        u64::from(schema.kinds()),
-        possible,
-        u64::from(schema.groups(0)),
-    )
-}
-
-// Whether a unit stands above the last level, and the fit of its children is too large.
-fn has_large_split(schema: &Schema, draft: &Draft, unit: usize, possible: u64) -> bool
-    requires depth { draft.now.depth ≡ length schema.now.levels }
-    requires unit { IsUnit draft.now unit }
-    requires possible { possible ≡ length (possible_cells schema.now) }
-    requires few { possible < 2 ^ 32 }
-    ensures { result ≡ spec.has_large_split schema.now draft.now unit }
-{
-    match draft.level_below(unit) {
-        Some(level) => is_large_split(
-            u64::from(draft.children(unit)),
+impl Spine {
+    // Whether the fit of the nation is too large.
+    fn has_large_root(&self, schema: &Schema, possible: u64) -> bool
+        requires sound { IsSound self.now }
+        requires depth { self.now.depth ≡ length schema.now.levels }
+        requires possible { possible ≡ length (possible_cells schema.now) }
+        requires few { possible < 2 ^ 32 }
+        ensures { result ≡ spec.is_too_large (fit_size schema.now self.now None) }
+    {
+        is_large_root(
+            self.at_level(1).len() as u64,
+            u64::from(schema.kinds()),
             possible,
-            u64::from(schema.groups(level)),
-        ),
-        None => false,
+            u64::from(schema.groups(0)),
+        )
     }
-}
 
-/// Whether a fit is too large.
-pub(crate) fn has_large_fit(schema: &Schema, draft: &Draft) -> bool
-    requires { draft.now.depth ≡ length schema.now.levels }
-    ensures { result ≡ spec.has_large_fit schema.now draft.now }
-{
-    let possible = count_possible(schema);
-    if has_large_root(schema, draft, possible) {
-        return true;
+    // Whether the fit of a unit's children is too large.
+    fn has_large_split(&self, schema: &Schema, parent: u32, possible: u64) -> bool
+        requires sound { IsSound self.now }
+        requires depth { self.now.depth ≡ length schema.now.levels }
+        requires parent { IsInner self.now parent }
+        requires possible { possible ≡ length (possible_cells schema.now) }
+        requires few { possible < 2 ^ 32 }
+        ensures { result ≡ spec.is_too_large (fit_size schema.now self.now (Some parent)) }
+    {
+        is_large_split(
+            self.children(parent).len() as u64,
+            possible,
+            u64::from(schema.groups(self.level(parent) + 1)),
+        )
     }
-    for unit in 0..draft.len() {
-        if has_large_split(schema, draft, unit, possible) {
-            return true;
+
+    /// The first fit, in fit order, that is too large.
+    pub(crate) fn first_large_fit(&self, schema: &Schema) -> Option<Option<u32>>
+        requires sound { IsSound self.now }
+        requires depth { self.now.depth ≡ length schema.now.levels }
+        ensures { result ≡ spec.first_large_fit schema.now self.now }
+    {
+        let possible = count_possible(schema);
+        if self.has_large_root(schema, possible) {
+            return Some(None);
         }
+        for parent in self.parents() {
+            if self.has_large_split(schema, *parent, possible) {
+                return Some(Some(*parent));
+            }
+        }
+        None
     }
-    false
 }

@@ -1,38 +1,122 @@
-// Which texts are spines of a nation, its states and their blocks.
-use super::{SpineFault, read_spine};
+// Which texts are spines of a nation, its states and their blocks, and which fault any other text has.
+use super::SpineFault::{self, *};
+use super::read_spine;
 use std::alloc::{AllocError, Global};
 use std::test::Fail;
 use tda_schema::{Schema, SchemaFault, read_schema};
 
-// Also with line ends of two bytes, quotes, parents that are named later, and a code of 16 bytes.
+// Also with line ends of two bytes, quotes, blank lines, parents that are named later, and a code of 16 bytes.
 const SPINES: [&str; 4] = [
     "unit,level,parent\nUS,nation,\nS1,state,US\nB1,block,S1\nB2,block,S1\n",
-    "unit,level,parent\r\n\"US\",nation,\r\nS1,\"state\",US\r\nB1,block,\"S1\"\r\n",
+    "unit,level,parent\r\n\"US\",nation,\r\n\r\nS1,\"state\",US\r\nB1,block,\"S1\"\r\n",
     "unit,level,parent\nB1,block,S1\nS1,state,US\nUS,nation,\n",
     "unit,level,parent\nUS,nation,\nS1,state,US\nB234567890123456,block,S1\n",
 ];
 
-// Rows of another width, other headers, no row; a code that is none, or repeated; a parent that is no unit, or of a
-// wrong level, or the unit itself; an unknown level; two nations; a state without a block.
-const OTHERS: [&str; 18] = [
-    "unit,level,parent\nUS,nation,\nS1,state\nB1,block,S1\n",
-    "unit,level,above\nUS,nation,\nS1,state,US\nB1,block,S1\n",
-    "US,nation,\nS1,state,US\nB1,block,S1\n",
-    "",
-    "unit,level,parent\n",
-    "unit,level,parent\nUS,nation,\nS1,state,US\nB2345678901234567,block,S1\n",
-    "unit,level,parent\nUS,nation,\nS1,state,US\n,block,S1\n",
-    "unit,level,parent\nUS,nation,\nS1,state,US\nB 1,block,S1\n",
-    "unit,level,parent\nUS,nation,\nS1,state,US\nB1,block,S1\nB1,block,S1\n",
-    "unit,level,parent\nUS,nation,\nS1,state,US\nB1,block,S1\nB2,block,S2\n",
-    "unit,level,parent\nUS,nation,\nS1,state,US\nB1,block,S1\nB2,block,US\n",
-    "unit,level,parent\nUS,nation,\nS1,state,US\nB1,block,S1\nB2,block,B2\n",
-    "unit,level,parent\nUS,nation,S1\nS1,state,US\nB1,block,S1\n",
-    "unit,level,parent\nUS,nation,\nS1,state,\nB1,block,S1\n",
-    "unit,level,parent\nUS,nation,\nS1,county,US\nB1,block,S1\n",
-    "unit,level,parent\nUS,nation,\nS1,state,US\nB1,block,S1\nUK,nation,\nS2,state,UK\nB2,block,S2\n",
-    "unit,level,parent\nUS,nation,\nS1,state,US\n",
-    "unit,level,parent\nUS,nation,\nS1,state,US\nB1,block,S1\nS2,state,US\n",
+// Faults of the file's form. A row of another width comes before a wrong header.
+const FORMS: [(&str, SpineFault); 7] = [
+    (
+        "unit,level,parent\nUS,nation,\nS1,state\nB1,block,S1\n",
+        BadRow(3),
+    ),
+    ("unit,level\nUS,nation,\n", BadRow(2)),
+    ("unit,level,above\nUS,nation,\nS1,state\n", BadRow(3)),
+    ("unit,level,above\nUS,nation,\n", BadHeader(1)),
+    ("US,nation,\nS1,state,US\nB1,block,S1\n", BadHeader(1)),
+    ("", BadHeader(1)),
+    ("\n\n", BadHeader(1)),
+];
+
+// Codes of 17 bytes, of none and with a space. The first row with a fault is told, but a row of another width comes
+// before it; and of a row's own faults the first: a repeated code with an unknown parent.
+const CODES: [(&str, SpineFault); 5] = [
+    (
+        "unit,level,parent\nUS,nation,\nS1,state,US\nB2345678901234567,block,S1\n",
+        BadCode(4),
+    ),
+    ("unit,level,parent\n,nation,\n", BadCode(2)),
+    (
+        "unit,level,parent\nUS,nation,\nB 1,block,S1\nB 2,block\n",
+        BadRow(4),
+    ),
+    ("unit,level,parent\nUS,nation,\nB 1,block,S1\n", BadCode(3)),
+    (
+        "unit,level,parent\nUS,nation,\nS1,state,US\nS1,block,S2\nB 1,block,S1\n",
+        Repeated(4),
+    ),
+];
+
+// A parent that is no row's code, the header's word, or known on a later row that has a fault itself. A unit of the
+// first level with a parent that is unknown, and with one that is known.
+const PARENTS: [(&str, SpineFault); 5] = [
+    (
+        "unit,level,parent\nUS,nation,\nS1,state,US\nB1,block,S1\nB2,block,S2\n",
+        UnknownParent(5),
+    ),
+    (
+        "unit,level,parent\nUS,nation,\nS1,state,unit\n",
+        UnknownParent(3),
+    ),
+    (
+        "unit,level,parent\nUS,nation,\nB1,block,S1\nS1,state,S9\n",
+        UnknownParent(4),
+    ),
+    (
+        "unit,level,parent\nUS,nation,S9\nS1,state,US\nB1,block,S1\n",
+        UnknownParent(2),
+    ),
+    (
+        "unit,level,parent\nUS,nation,S1\nS1,state,US\nB1,block,S1\n",
+        WrongLevel(2),
+    ),
+];
+
+// A level that is none; a parent two levels above; no parent; a unit that is its own parent; a parent of the last level.
+// Of two rows with the parent's code the first counts.
+const LEVELS: [(&str, SpineFault); 7] = [
+    (
+        "unit,level,parent\nUS,nation,\nS1,county,US\nB1,block,S1\n",
+        WrongLevel(3),
+    ),
+    (
+        "unit,level,parent\nUS,nation,\nS1,state,US\nB1,block,US\n",
+        WrongLevel(4),
+    ),
+    (
+        "unit,level,parent\nUS,nation,\nS1,state,\nB1,block,S1\n",
+        WrongLevel(3),
+    ),
+    (
+        "unit,level,parent\nUS,nation,\nS1,state,US\nB1,block,S1\nB2,block,B2\n",
+        WrongLevel(5),
+    ),
+    (
+        "unit,level,parent\nUS,nation,\nS1,state,US\nB1,block,S1\nB2,block,B1\n",
+        WrongLevel(5),
+    ),
+    (
+        "unit,level,parent\nB1,block,S1\nS1,block,B1\nS1,state,US\nUS,nation,\n",
+        WrongLevel(2),
+    ),
+    (
+        "unit,level,parent\nUS,nation,\nB1,block,S1\nS1,state,US\nS1,block,S1\n",
+        Repeated(5),
+    ),
+];
+
+// No nation, and two; states without a block, the first of which is told.
+const TREES: [(&str, SpineFault); 5] = [
+    ("unit,level,parent\n", NoNation),
+    (
+        "unit,level,parent\nUS,nation,\nS1,state,US\nUK,nation,\nS2,state,UK\nB2,block,S2\n",
+        NoNation,
+    ),
+    ("unit,level,parent\nUS,nation,\n", Childless(0)),
+    ("unit,level,parent\nUS,nation,\nS1,state,US\n", Childless(1)),
+    (
+        "unit,level,parent\nS3,state,US\nB3,block,S3\nS2,state,US\nUS,nation,\nS1,state,US\n",
+        Childless(2),
+    ),
 ];
 
 fn three_levels(alloc: Global) -> Result<Schema, SchemaFault> {
@@ -47,42 +131,107 @@ fn texts_that_are_spines(rt: HostRuntime) -> Result<(), Fail> {
     let schema = three_levels(rt.alloc())?;
     for text in SPINES {
         assert!(rt; text.len() < 1000);
-        assert_eq!(rt;
-            read_spine(rt.alloc(), &schema, text.as_bytes()).err(),
-            None
-        );
+        let fault = read_spine(rt.alloc(), &schema, text.as_bytes()).err();
+        assert_eq!(rt; fault, None);
     }
     Ok(())
 }
 
 #[test]
-fn texts_that_are_no_spines(rt: HostRuntime) -> Result<(), Fail> {
+fn first_fault_of_other_texts(rt: HostRuntime) -> Result<(), Fail> {
     let schema = three_levels(rt.alloc())?;
-    for text in OTHERS {
-        assert!(rt; text.len() < 1000);
-        let fault = read_spine(rt.alloc(), &schema, text.as_bytes()).err();
-        assert_eq!(rt; fault, Some(SpineFault::NotYet));
+    for table in [
+        FORMS.as_slice(),
+        CODES.as_slice(),
+        PARENTS.as_slice(),
+        LEVELS.as_slice(),
+        TREES.as_slice(),
+    ] {
+        for (text, due) in table {
+            assert!(rt; text.len() < 1000);
+            let fault = read_spine(rt.alloc(), &schema, text.as_bytes()).err();
+            assert_eq!(rt; fault, Some(*due));
+        }
     }
     Ok(())
 }
 
-// A spine of one state with so many blocks.
-fn blocks(alloc: Global, count: u32) -> Result<String, AllocError> {
-    let mut text = String::from_str(alloc, "unit,level,parent\nUS,nation,\nS1,state,US\n")?;
-    for block in 0..count {
-        text.push_str(&format!(in alloc; "B{block},block,S1\n")?)?;
+#[test]
+fn a_code_that_is_no_text(rt: HostRuntime) -> Result<(), Fail> {
+    let schema = three_levels(rt.alloc())?;
+    let fault = read_spine(rt.alloc(), &schema, b"unit,level,parent\n\xFF,nation,\n").err();
+    assert_eq!(rt; fault, Some(BadCode(2)));
+    Ok(())
+}
+
+// A spine of so many states, the first of which has so many blocks and each other one.
+fn wide(alloc: Global, states: u32, blocks: u32) -> Result<String, AllocError> {
+    let mut text = String::from_str(alloc, "unit,level,parent\nUS,nation,\n")?;
+    for state in 0..states {
+        text.push_str(&format!(in alloc; "S{state},state,US\n")?)?;
+    }
+    for state in 1..states {
+        text.push_str(&format!(in alloc; "S{state}B,block,S{state}\n")?)?;
+    }
+    for block in 0..blocks {
+        text.push_str(&format!(in alloc; "B{block},block,S0\n")?)?;
+    }
+    Ok(text)
+}
+
+// The fit of a unit's children has a node for the hub, the cell and each child; that of the nation has a node more, and
+// comes before all others.
+#[test]
+fn most_children_of_one_unit(rt: HostRuntime) -> Result<(), Fail> {
+    let schema = three_levels(rt.alloc())?;
+    for (states, blocks, due) in [
+        (1, 2_046, None),
+        (1, 2_047, Some(FitTooLarge(Some(1)))),
+        (2_045, 1, None),
+        (2_046, 2_047, Some(FitTooLarge(None))),
+    ] {
+        let text = wide(rt.alloc(), states, blocks)?;
+        assert!(rt; text.len() < 1_000_000);
+        let fault = read_spine(rt.alloc(), &schema, text.as_bytes()).err();
+        assert_eq!(rt; fault, due);
+    }
+    Ok(())
+}
+
+// Units are counted before fits are measured.
+#[test]
+fn most_units(rt: HostRuntime) -> Result<(), Fail> {
+    let schema = three_levels(rt.alloc())?;
+    for (blocks, due) in [(131_070, FitTooLarge(Some(1))), (131_071, TooMany)] {
+        let text = wide(rt.alloc(), 1, blocks)?;
+        assert!(rt; text.len() < 10_000_000);
+        let fault = read_spine(rt.alloc(), &schema, text.as_bytes()).err();
+        assert_eq!(rt; fault, Some(due));
+    }
+    Ok(())
+}
+
+// Two counties of too many blocks: the second in the file stands under the first state.
+fn two_counties(alloc: Global) -> Result<String, AllocError> {
+    let mut text = String::from_str(
+        alloc,
+        "unit,level,parent\nC2,county,S2\nC1,county,S1\nUS,nation,\nS1,state,US\nS2,state,US\n",
+    )?;
+    for block in 0..2_047 {
+        text.push_str(&format!(in alloc; "D{block},block,C2\nB{block},block,C1\n")?)?;
     }
     Ok(text)
 }
 
 #[test]
-fn most_blocks_of_one_state(rt: HostRuntime) -> Result<(), Fail> {
-    let schema = three_levels(rt.alloc())?;
-    for (count, due) in [(2046, None), (2047, Some(SpineFault::NotYet))] {
-        let text = blocks(rt.alloc(), count)?;
-        assert!(rt; text.len() < 1_000_000);
-        let fault = read_spine(rt.alloc(), &schema, text.as_bytes()).err();
-        assert_eq!(rt; fault, due);
-    }
+fn first_large_fit_is_that_of_fit_order(rt: HostRuntime) -> Result<(), Fail> {
+    let schema = read_schema(
+        rt.alloc(),
+        b"version = 1\ntotal = \"1\"\n[[attribute]]\nname = \"kind\"\nvalues = [\"house\"]\n[[level]]\nname = \"nation\"\n[[level]]\nname = \"state\"\n[[level]]\nname = \"county\"\n[[level]]\nname = \"block\"\n",
+    )?;
+    let text = two_counties(rt.alloc())?;
+    assert!(rt; text.len() < 1_000_000);
+    let fault = read_spine(rt.alloc(), &schema, text.as_bytes()).err();
+    assert_eq!(rt; fault, Some(FitTooLarge(Some(1))));
     Ok(())
 }

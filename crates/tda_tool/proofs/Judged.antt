@@ -1,11 +1,16 @@
 -- What a read gives tells what the file is.
-use Rattle.std.proofs.Common.{◌≡◌, ◌≤◌, ◌<◌, ◌+◌, ◌∙◌, List, ℕ, length, take, refl, sym, ap, arith, Option, Some, None, IfSome, option_map, Result, Ok, Err}
+use Rattle.std.proofs.Common.{◌≡◌, ◌≢◌, subst, inl, ◌≤◌, ◌<◌, ◌+◌, ◌∙◌, List, ℕ, length, take, refl, sym, ap, arith, Option, Some, None, IfSome, option_map, Result, Ok, Err}
 use Rattle.std.proofs.lemmas.List.{take_all, length-take}
 use Rattle.std.proofs.lemmas.Option.{same_Some}
 use Rattle.std.proofs.lemmas.Bool.{le-ltb, lt-ltb}
-use Rattle.tda_io.specs.Outside.{Shelf}
+use Rattle.tda_io.specs.Outside.{Shelf, asks}
 use Rattle.tda_tool.specs.Due.{file_limit, judged_file, refused_ending}
-use Rattle.tda_tool.specs.Reading.{IsLong}
+use Rattle.tda_tool.specs.Refusal.{plain_text, IsFaultText}
+use Rattle.tda_tool.specs.declared.refusal.Plain.TheVariants.{TooLong}
+use Rattle.tda_tool.specs.declared.reading.File.{File}
+use Rattle.tda_tool.specs.declared.reading.Stop.{Stop}
+use Rattle.tda_tool.specs.declared.reading.Stop.TheVariants as stop
+use Rattle.tda_tool.specs.Reading.{path_of, IsLong, IsRefused, IsStop, GivesBytes, AsksFile, Counts}
 
 -- the first bytes of what a shelf holds
 abbrev pub IsRead : List ℕ → List ℕ → Shelf → Type 0
@@ -32,23 +37,46 @@ short_file path v None is less = tt
 short_file path v (Some s) is less = short (s.holds path) v is less
 
 -- a file that is read whole is what its bytes are read as
-pub accepted : {A F : Type 0} (file : List ℕ) (read : List ℕ → Result A F) (path v text : List ℕ) (x : A) (shelf : Option Shelf)
-    → IfSome shelf (λ s. s.holds path ≡ Some v) → length v ≤ file_limit → text ≡ v → read text ≡ Ok x
-    → IfSome shelf (λ s. judged_file file read (s.holds path) ≡ Ok x)
-accepted file read path v text x None held less same is = tt
-accepted file read path v text x (Some s) held less same is = rw (held, le-ltb file_limit (length v) less, ← same, is) refl
+pub accepted : {A F : Type 0} (file : List ℕ) (text : F → List ℕ) (read : List ℕ → Result A F) (path v bytes : List ℕ) (x : A) (shelf : Option Shelf)
+    → IfSome shelf (λ s. s.holds path ≡ Some v) → length v ≤ file_limit → bytes ≡ v → read bytes ≡ Ok x
+    → IfSome shelf (λ s. judged_file file text read (s.holds path) ≡ Ok x)
+accepted file text read path v bytes x None held less same is = tt
+accepted file text read path v bytes x (Some s) held less same is = rw (held, le-ltb file_limit (length v) less, ← same, is) refl
 
-pub refused : {A F : Type 0} (file : List ℕ) (read : List ℕ → Result A F) (path v text : List ℕ) (e : F) (shelf : Option Shelf)
-    → IfSome shelf (λ s. s.holds path ≡ Some v) → length v ≤ file_limit → text ≡ v → read text ≡ Err e
-    → IfSome shelf (λ s. judged_file file read (s.holds path) ≡ Err (refused_ending file))
-refused file read path v text e None held less same is = tt
-refused file read path v text e (Some s) held less same is = rw (held, le-ltb file_limit (length v) less, ← same, is) refl
+pub refused : {A F : Type 0} (file : List ℕ) (text : F → List ℕ) (read : List ℕ → Result A F) (path v bytes : List ℕ) (e : F) (shelf : Option Shelf)
+    → IfSome shelf (λ s. s.holds path ≡ Some v) → length v ≤ file_limit → bytes ≡ v → read bytes ≡ Err e
+    → IfSome shelf (λ s. judged_file file text read (s.holds path) ≡ Err (refused_ending file (text e)))
+refused file text read path v bytes e None held less same is = tt
+refused file text read path v bytes e (Some s) held less same is = rw (held, le-ltb file_limit (length v) less, ← same, is) refl
 
-too_long : {A F : Type 0} (file : List ℕ) (read : List ℕ → Result A F) (held : Option (List ℕ)) → IsLong held → judged_file file read held ≡ Err (refused_ending file)
-too_long file read held long = rw (long.1, lt-ltb file_limit (length long.0) long.2) refl
+too_long : {A F : Type 0} (file : List ℕ) (text : F → List ℕ) (read : List ℕ → Result A F) (held : Option (List ℕ)) → IsLong held
+    → judged_file file text read held ≡ Err (refused_ending file (plain_text TooLong))
+too_long file text read held is = rw (is.1, lt-ltb file_limit (length is.0) is.2) refl
 
 -- a file that is too long is refused
-pub long_refused : {A F : Type 0} (file : List ℕ) (read : List ℕ → Result A F) (path : List ℕ) (shelf : Option Shelf)
-    → IfSome shelf (λ s. IsLong (s.holds path)) → IfSome shelf (λ s. judged_file file read (s.holds path) ≡ Err (refused_ending file))
-long_refused file read path None long = tt
-long_refused file read path (Some s) long = too_long file read (s.holds path) long
+pub long_refused : {A F : Type 0} (file : List ℕ) (text : F → List ℕ) (read : List ℕ → Result A F) (path : List ℕ) (shelf : Option Shelf)
+    → IfSome shelf (λ s. IsLong (s.holds path)) → IfSome shelf (λ s. judged_file file text read (s.holds path) ≡ Err (refused_ending file (plain_text TooLong)))
+long_refused file text read path None is = tt
+long_refused file text read path (Some s) is = too_long file text read (s.holds path) is
+
+-- a refused file gives no bytes, is asked for, and is no failed read
+pub gives_none : (words : List (List ℕ)) (f : File) (shelf : Option Shelf) (s : Stop) → IsRefused f (plain_text TooLong) s → IfSome shelf (λ h. IsLong (h.holds (path_of words f))) → GivesBytes words f shelf (Err s)
+gives_none words f shelf (stop.Refused r) is long = (is.0, is.1, long)
+gives_none words f shelf (stop.Read g) is long = absurd is
+gives_none words f shelf stop.NoMemory is long = tt
+
+pub asked_once : (T : Type 0) (words : List (List ℕ)) (f : File) (text : List ℕ) (old new : Option Shelf) (s : Stop) → IsRefused f text s → new ≡ option_map (asks (path_of words f)) old → AsksFile {T = T} words f old new (Err s)
+asked_once T words f text old new (stop.Refused r) is asked = asked
+asked_once T words f text old new (stop.Read g) is asked = absurd is
+asked_once T words f text old new stop.NoMemory is asked = inl asked
+
+pub counts_none : (T : Type 0) (f : File) (text : List ℕ) (before now : ℕ) (s : Stop) → IsRefused f text s → now ≡ before → Counts {T = T} before now (Err s)
+counts_none T f text before now (stop.Refused r) is same = same
+counts_none T f text before now (stop.Read g) is same = absurd is
+counts_none T f text before now stop.NoMemory is same = same
+
+-- a refusal by a reader's fault
+pub stop_by : {F : Type 0} (no_memory : F) (f : File) (text : F → List ℕ) (e : F) (s : Stop) → e ≢ no_memory → IsRefused f (text e) s → IsFaultText (text e) → IsStop no_memory f text e s
+stop_by no_memory f text e (stop.Refused r) ne is known = (ne, is.0, is.1, subst IsFaultText (sym is.1) known)
+stop_by no_memory f text e (stop.Read g) ne is known = absurd is
+stop_by no_memory f text e stop.NoMemory ne is known = tt

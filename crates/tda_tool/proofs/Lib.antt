@@ -1,17 +1,18 @@
 pub mod Values
-pub mod Reading
+pub mod Asked
 pub mod Judged
+pub mod Stops
+pub mod FaultUnits
 pub mod Files
 pub mod Begun
 pub mod Paths
 pub mod Ran
-pub mod TotalLemmas
 pub mod Attaining
-pub mod OneCell
+pub mod FirstCells
+pub mod FindHomes
+pub mod ByKind
 pub mod Parents
-pub mod OneCellAttained
-pub mod OneCellText
+pub mod ByKindText
 pub mod PlainCounts
 pub mod PlainText
-pub mod Names
 mod Worked

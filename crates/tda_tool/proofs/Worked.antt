@@ -1,13 +1,17 @@
--- Words and totals of a release of one cell, judged by the definitions alone.
-use Rattle.std.proofs.Common.{◌≡◌, [], ◌∷◌, ◌++◌, List, ℕ, refl, Some, None, Ok, Err, codes}
+-- Words of a release and the texts of faults, by the definitions alone.
+use Rattle.std.proofs.Common.{◌≡◌, [], ◌∷◌, ◌++◌, List, ℕ, refl, Some, None, codes}
 use Rattle.std.specs.Fmt.{digits}
-use Rattle.tda_io.specs.Csv.{Row, judged}
 use Rattle.tda_model.specs.Spine.{Spine}
-use Rattle.tda_tool.specs.Totals.{format}
 use Rattle.tda_tool.specs.Words.{command_of, value_of, reads_of, writes_of}
 use Rattle.tda_tool.specs.Due.{due, words_ending, read_ending}
+use Rattle.tda_tool.specs.Refusal.{plain_text, named_text}
+use Rattle.tda_tool.specs.declared.refusal.Plain.TheVariants as plain
+use Rattle.tda_tool.specs.declared.refusal.Named.TheVariants as named
+use Rattle.tda_spine.specs.declared.fault.SpineFault.TheVariants as spine_fault
+use Rattle.tda_invar.specs.declared.fac_fault.FacFault.TheVariants as facility_fault
+use Rattle.tda_invar.specs.declared.tot_fault.TotFault.TheVariants as total_fault
+use Rattle.tda_invar.specs.declared.join_fault.JoinFault.TheVariants as join_fault
 use Rattle.tda_tool.specs.declared.words.Command.TheVariants.{Fit}
-use Rattle.tda_tool.specs.declared.totals.TotFault.TheVariants.{NotYet}
 
 abbrev pair : List ℕ → List ℕ → List (List ℕ)
 pair name value = name ∷ value ∷ []
@@ -18,25 +22,28 @@ schema = pair (codes "--schema") (codes "a")
 abbrev spine : List (List ℕ)
 spine = pair (codes "--spine") (codes "b")
 
+abbrev facilities : List (List ℕ)
+facilities = pair (codes "--facilities") (codes "c")
+
 abbrev totals : List (List ℕ)
-totals = pair (codes "--totals") (codes "c")
+totals = pair (codes "--totals") (codes "d")
 
 abbrev fit : List (List ℕ) → List (List ℕ)
-fit tables = codes "fit" ∷ schema ++ spine ++ totals ++ tables
+fit tables = codes "fit" ∷ schema ++ spine ++ facilities ++ totals ++ tables
 
 abbrev words : List (List ℕ)
-words = fit (pair (codes "--tables") (codes "d"))
+words = fit (pair (codes "--tables") (codes "e"))
 
 a_command : command_of words ≡ Some Fit
 a_command = refl
 
-any_order : command_of (codes "fit" ∷ pair (codes "--tables") (codes "d") ++ totals ++ schema ++ spine) ≡ Some Fit
+any_order : command_of (codes "fit" ∷ pair (codes "--tables") (codes "e") ++ totals ++ schema ++ facilities ++ spine) ≡ Some Fit
 any_order = refl
 
-read : reads_of words ≡ codes "a" ∷ codes "b" ∷ codes "c" ∷ []
+read : reads_of words ≡ codes "a" ∷ codes "b" ∷ codes "c" ∷ codes "d" ∷ []
 read = refl
 
-written : writes_of words ≡ codes "d" ∷ []
+written : writes_of words ≡ codes "e" ∷ []
 written = refl
 
 -- a value is one by its place
@@ -46,10 +53,13 @@ by_place = refl
 no_words : command_of [] ≡ None
 no_words = refl
 
-a_name_twice : command_of (codes "fit" ∷ schema ++ schema ++ totals ++ pair (codes "--tables") (codes "d")) ≡ None
+a_name_missing : command_of (codes "fit" ∷ schema ++ spine ++ totals ++ pair (codes "--tables") (codes "e")) ≡ None
+a_name_missing = refl
+
+a_name_twice : command_of (codes "fit" ∷ schema ++ schema ++ facilities ++ totals ++ pair (codes "--tables") (codes "e")) ≡ None
 a_name_twice = refl
 
-another_name : command_of (codes "fit" ∷ schema ++ spine ++ totals ++ pair (codes "--prices") (codes "d")) ≡ None
+another_name : command_of (codes "fit" ∷ schema ++ spine ++ facilities ++ totals ++ pair (codes "--prices") (codes "e")) ≡ None
 another_name = refl
 
 to_standard_output : command_of (fit (pair (codes "--tables") (codes "-"))) ≡ None
@@ -61,7 +71,7 @@ over_an_input = refl
 an_empty_value : command_of (fit (pair (codes "--tables") [])) ≡ None
 an_empty_value = refl
 
-a_word_left_over : command_of (fit (pair (codes "--tables") (codes "d")) ++ codes "--more" ∷ []) ≡ None
+a_word_left_over : command_of (fit (pair (codes "--tables") (codes "e")) ++ codes "--more" ∷ []) ≡ None
 a_word_left_over = refl
 
 -- what is due without words, and where nothing can be read
@@ -74,32 +84,21 @@ due_without_files = refl
 abbrev units : Spine
 units = record { depth = 3; units = record { code = codes "US"; level = 0; parent = None } ∷ record { code = codes "S1"; level = 1; parent = Some 0 } ∷ record { code = codes "S2"; level = 1; parent = Some 0 } ∷ [] }
 
-abbrev row : List ℕ → List ℕ → Row
-row state total = state ∷ total ∷ []
-
-abbrev header : Row
-header = row (codes "state") (codes "total")
-
--- a unit that is no state has the total 0
-accepted : judged (format units) (header ∷ row (codes "S2") (codes "5") ∷ row (codes "S1") (codes "0") ∷ []) ≡ Ok (0 ∷ 0 ∷ 5 ∷ [])
+-- faults as they are printed: a unit of the spine by its row, a state by its code
+childless : plain_text (plain.Spine (spine_fault.Childless 1)) ≡ codes "Childless 3"
 unfolding digits
-accepted = refl
+childless = refl
 
-missing : judged (format units) (header ∷ row (codes "S2") (codes "5") ∷ []) ≡ Err NotYet
+large_root : plain_text (plain.Spine (spine_fault.FitTooLarge None)) ≡ codes "FitTooLarge -"
+large_root = refl
+
+repeated_facility : plain_text (plain.Facilities (facility_fault.Repeated 3)) ≡ codes "Repeated 3"
 unfolding digits
-missing = refl
+repeated_facility = refl
 
-twice : judged (format units) (header ∷ row (codes "S2") (codes "5") ∷ row (codes "S2") (codes "5") ∷ row (codes "S1") (codes "0") ∷ []) ≡ Err NotYet
+missing_state : named_text units (named.Totals (total_fault.Missing 2)) ≡ codes "Missing S2"
+missing_state = refl
+
+short_state : named_text units (named.Join (join_fault.Short 1 1 2)) ≡ codes "Short S1 1 2"
 unfolding digits
-twice = refl
-
-no_state : judged (format units) (header ∷ row (codes "US") (codes "5") ∷ []) ≡ Err NotYet
-no_state = refl
-
-too_many : judged (format units) (header ∷ row (codes "S1") (codes "1073741824") ∷ row (codes "S2") (codes "1") ∷ []) ≡ Err NotYet
-unfolding digits
-too_many = refl
-
-leading_zero : judged (format units) (header ∷ row (codes "S1") (codes "01") ∷ row (codes "S2") (codes "1") ∷ []) ≡ Err NotYet
-unfolding digits
-leading_zero = refl
+short_state = refl

@@ -1,7 +1,7 @@
 pub mod Words
-pub mod Totals
 pub mod Attained
 pub mod Plain
+pub mod Refusal
 pub mod Due
 pub mod Outcome
 pub mod Reading

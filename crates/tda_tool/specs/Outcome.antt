@@ -6,6 +6,7 @@ use Rattle.tda_model.specs.Tables.{Tables}
 use Rattle.tda_model.specs.TablesText.{tables_text}
 use Rattle.tda_tool.specs.Attained.{Inputs, IsAttained}
 use Rattle.tda_tool.specs.Words.{reads_of, writes_of, read_names, dash}
+use Rattle.tda_tool.specs.Refusal.{IsFaultText}
 use Rattle.tda_tool.specs.Due.{inputs_from, given_by, failing_at, due_by, due, fit_ending, read_ending, refused_ending}
 
 -- a file with all its bytes, ended
@@ -72,13 +73,15 @@ pub record LeavesAll (names : List (List ℕ)) (old new : Option Tray) : Type 0 
   pub written : Leaves (map (λ p. whole p.0 p.1) (zip names texts) ++ whole dash report ∷ []) old new
 
 -- One of the command's files isn't accepted: the files before it were, the names asked for are those up to it,
--- and nothing but the report of it was begun.
+-- and nothing but the report of it and of its fault was begun.
 pub record FileRefused (words : List (List ℕ)) (shelf shelf_new : Option Shelf) (old new : Option Tray) : Type 0 where
   pub file : ℕ
   pub within : file < length (reads_of words)
   pub asked : shelf_new ≡ option_map (asks_all (take (file + 1) (reads_of words))) shelf
-  pub refused : IfSome shelf (λ s. due words s.holds ≡ refused_ending (slice_index_or (read_names words) file []))
-  pub written : LeavesReport (refused_ending (slice_index_or (read_names words) file [])).report old new
+  pub fault : List ℕ
+  pub of_fault : IsFaultText fault
+  pub refused : IfSome shelf (λ s. due words s.holds ≡ refused_ending (slice_index_or (read_names words) file []) fault)
+  pub written : LeavesReport (refused_ending (slice_index_or (read_names words) file []) fault).report old new
 
 -- Outputs are begun only where no file was refused and no read failed.
 abbrev pub BeginsWhenDue : List (List ℕ) → Option Shelf → ℕ → ℕ → Option Tray → Option Tray → Type 0

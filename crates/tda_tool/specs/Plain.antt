@@ -1,34 +1,47 @@
--- The plain tables: all persons are in one cell, and below the states the first child of a unit has all that the unit has.
-use Rattle.std.specs.Prelude.{ℕ, zero, suc, ◌≡◌, ◌<◌, Bool, true, false, ◌==◌, if◌then◌else◌, List, [], ◌∷◌, sum_by, slice_index, Some, None}
+-- The plain tables. Persons of each kind are in its first possible cell. Of each kind but the first a unit has as many as its facilities
+-- need, and what a state's total leaves are households, which below the states the first child of each unit has.
+use Rattle.std.specs.Prelude.{ℕ, zero, suc, ◌-◌, Bool, false, ◌==◌, if◌then◌else◌, List, [], ◌∷◌, filter, map, sum_by, slice_index, Some, None}
+use Rattle.std.specs.List.{flat_map}
 use Rattle.tda_model.specs.Schema.{Schema}
-use Rattle.tda_model.specs.Cells.{cell_count, is_possible, kind_of}
-use Rattle.tda_model.specs.Spine.{Spine, level_of, parent_of, units_at, children_of, code_of}
+use Rattle.tda_model.specs.Cells.{kind_of, all_cells}
+use Rattle.tda_model.specs.Groups.{kind_cells}
+use Rattle.tda_model.specs.Spine.{Spine, level_of, parent_of, is_at, unit_numbers, units_at, children_of, code_of}
+use Rattle.tda_model.specs.Bounds.{low, needed}
 use Rattle.tda_model.specs.TablesText.{count_row}
+use Rattle.tda_tool.specs.Attained.{Inputs, known_of}
 
--- all states' totals together
-abbrev pub national_total : Spine → List ℕ → ℕ
-national_total sp totals = sum_by (slice_index totals) (units_at sp 1)
+-- what a state's total leaves beside its facilities' needs, and nobody of another unit
+abbrev pub spare : Inputs → ℕ → ℕ
+spare i u = if is_at i.spine 1 u then (known_of i).total u - needed i.schema i.spine (known_of i) u else 0
+
+abbrev pub spares : Inputs → List ℕ
+spares i = map (spare i) (unit_numbers i.spine)
 
 abbrev pub is_first : List ℕ → ℕ → Bool
 is_first [] u = false
 is_first (c ∷ rest) u = c == u
 
--- of a unit and its level: the nation has all, a state its total, and below the first child has what its parent has
-abbrev pub plain_at : Spine → List ℕ → ℕ → ℕ → ℕ
-plain_at sp totals zero u = national_total sp totals
-plain_at sp totals (suc zero) u = slice_index totals u
-plain_at sp totals (suc (suc l)) u =
-    elim (parent_of sp u) [ Some p ↦ if is_first (children_of sp p) u then plain_at sp totals (suc l) p else 0 | None ↦ 0 ]
+-- of a unit and its level: the nation has what all states own, and below the states the first child has what its parent has
+abbrev pub passed_at : Spine → (ℕ → ℕ) → ℕ → ℕ → ℕ
+passed_at sp own zero u = sum_by own (units_at sp 1)
+passed_at sp own (suc zero) u = own u
+passed_at sp own (suc (suc l)) u =
+    elim (parent_of sp u) [ Some p ↦ if is_first (children_of sp p) u then passed_at sp own (suc l) p else 0 | None ↦ 0 ]
 
-abbrev pub plain_count : Spine → List ℕ → ℕ → ℕ
-plain_count sp totals u = plain_at sp totals (level_of sp u) u
+abbrev pub passed_down : Spine → (ℕ → ℕ) → ℕ → ℕ
+passed_down sp own u = passed_at sp own (level_of sp u) u
 
--- a possible cell of the first kind
-pub record IsHome (s : Schema) (home : ℕ) : Type 0 where
-  pub here : home < cell_count s
-  pub possible : is_possible s home ≡ true
-  pub first : kind_of s home ≡ 0
+-- the persons of a kind that a unit has
+abbrev pub persons : Inputs → ℕ → ℕ → ℕ
+persons i u kind = if kind == 0 then passed_down i.spine (slice_index (spares i)) u else low i.spine (known_of i) u kind
 
--- the row of a unit in the file of the plain tables, whose persons are all in one cell
-abbrev pub plain_row : Spine → List ℕ → ℕ → ℕ → List ℕ
-plain_row sp totals home u = count_row (code_of sp u) home (plain_count sp totals u)
+-- a cell is the first possible one of its kind
+abbrev pub is_home : Schema → ℕ → Bool
+is_home s j = is_first (kind_cells s (kind_of s j)) j
+
+abbrev pub homes : Schema → List ℕ
+homes s = filter (is_home s) (all_cells s)
+
+-- the rows of a unit in the file of the plain tables
+abbrev pub plain_rows : Inputs → ℕ → List ℕ
+plain_rows i u = flat_map (λ j. count_row (code_of i.spine u) j (persons i u (kind_of i.schema j))) (homes i.schema)

@@ -37,7 +37,7 @@ pub record Form : Type 0 where
 abbrev pub fit_form : Form
 fit_form = record {
   word = codes "fit";
-  reads = codes "schema" ∷ codes "spine" ∷ codes "totals" ∷ [];
+  reads = codes "schema" ∷ codes "spine" ∷ codes "facilities" ∷ codes "totals" ∷ [];
   writes = codes "tables" ∷ [];
 }
 

@@ -1,9 +1,11 @@
 // What the program answers.
-ghost use Rattle.std.specs.Prelude.{◌≡◌, IfOk, string_bytes};
+ghost use Rattle.std.specs.Prelude.{◌≡◌, IfOk};
 ghost use Rattle.tda_tool.specs.Answer.{ending_of};
 
-use crate::inputs::File;
-use std::alloc::{AllocError, Global};
+use crate::reading::File;
+use crate::refusal::Refusal;
+use std::alloc::Global;
+use tda_io::NoMemory;
 
 /// What `fit` gives: how many fits there are, and the text of the tables.
 #[derive(Debug, Drop)]
@@ -18,14 +20,14 @@ pub(crate) enum Answer {
     /// The words are no command.
     Words,
     /// A file isn't accepted.
-    Refused(File),
+    Refused(Refusal),
     /// The read of a file failed.
     Read(File),
     Fit(Fitted),
 }
 
 impl Answer {
-    ghost use Rattle.std.specs.Prelude.{◌≡◌, IfOk, string_bytes};
+    ghost use Rattle.std.specs.Prelude.{◌≡◌, IfOk};
     ghost use Rattle.tda_tool.specs.Answer.{ending_of};
 
     /// The status that the program ends with.
@@ -41,22 +43,19 @@ impl Answer {
     }
 
     /// The line of the report.
-    pub(crate) fn report(&self, alloc: Global) -> Result<String, AllocError>
-        ensures { IfOk result (λ s. string_bytes s ≡ (ending_of self.now).report) }
+    pub(crate) fn report(&self, alloc: Global) -> Result<Vec<u8>, NoMemory>
+        ensures { IfOk result (λ v. v.items ≡ (ending_of self.now).report) }
     {
         match self {
             Answer::Fit(fitted) => {
                 let fits = fitted.fits;
-                format!(in alloc; "ok fit fits={fits}\n")
+                Ok(format!(in alloc; "ok fit fits={fits}\n")?.into_bytes())
             }
-            Answer::Words => format!(in alloc; "words\n"),
-            Answer::Refused(file) => {
-                let name = file.name();
-                format!(in alloc; "refused {name} NotYet\n")
-            }
+            Answer::Words => Ok(format!(in alloc; "words\n")?.into_bytes()),
+            Answer::Refused(refusal) => refusal.line(alloc),
             Answer::Read(file) => {
                 let name = file.name();
-                format!(in alloc; "read {name}\n")
+                Ok(format!(in alloc; "read {name}\n")?.into_bytes())
             }
         }
     }

@@ -2,14 +2,16 @@
 #![tactic(auto)]
 
 mod answer;
+mod homes;
 mod inputs;
 mod output;
 mod plain;
 mod prepare;
 mod publish;
+mod reading;
+mod refusal;
 mod tables;
 mod top;
-mod totals;
 mod words;
 
 pub use top::tool;

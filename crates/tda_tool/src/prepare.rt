@@ -4,7 +4,8 @@ ghost use Rattle.tda_tool.specs.Words.{command_of};
 ghost use Rattle.tda_tool.specs.Answer.{SuitsWords, IsDue, AsksPrepared, CountsPrepared, IsMadeFrom};
 
 use crate::answer::{Answer, Fitted};
-use crate::inputs::{Inputs, Stop, read_inputs};
+use crate::inputs::{Inputs, read_inputs};
+use crate::reading::Stop;
 use crate::tables::tables_text;
 use crate::words::{Command, judge};
 use std::alloc::Global;
@@ -14,8 +15,8 @@ use tda_io::{Inbox, NoMemory};
 fn fitted(alloc: Global, inputs: &Inputs) -> Result<Fitted, NoMemory>
     ensures { IfOk result (IsMadeFrom inputs.now) }
 {
-    let tables = tables_text(alloc, &inputs.schema, &inputs.spine, &inputs.totals)?;
-    let fits = inputs.spine.parents().len() + 1;
+    let tables = tables_text(alloc, inputs)?;
+    let fits = inputs.spine().parents().len() + 1;
     Ok(Fitted { fits, tables })
 }
 
@@ -31,7 +32,7 @@ fn fit<I: Inbox>(alloc: Global, words: &[String], inbox: &mut I) -> Result<Answe
     match read_inputs(alloc, words, inbox) {
         Ok(inputs) => Ok(Answer::Fit(fitted(alloc, &inputs)?)),
         Err(Stop::Read(file)) => Ok(Answer::Read(file)),
-        Err(Stop::Refused(file)) => Ok(Answer::Refused(file)),
+        Err(Stop::Refused(refusal)) => Ok(Answer::Refused(refusal)),
         Err(Stop::NoMemory) => Err(NoMemory),
     }
 }

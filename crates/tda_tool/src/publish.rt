@@ -72,7 +72,7 @@ pub(crate) fn publish<O: Outbox>(
         return Err(tell_memory(outbox));
     };
     match write_outputs(words, answer, outbox) {
-        Ok(()) => write_whole(outbox, "-", report.as_str().as_bytes()),
+        Ok(()) => write_whole(outbox, "-", &report),
         Err(OutFault::NoMemory) => Err(tell_memory(outbox)),
         Err(OutFault::Failed) => Err(OutFault::Failed),
     }

@@ -1,37 +1,18 @@
 // The text of the plain tables.
-ghost use Rattle.std.specs.Prelude.{◌≡◌, ◌<◌, ◌≤◌, ◌++◌, ℕ, true, length, sum, IfOk, OnOk};
+ghost use Rattle.std.specs.Prelude.{◌≡◌, ◌++◌, All, true, IfOk, OnOk};
 ghost use Rattle.std.specs.List.{flat_map};
 ghost use Rattle.tda_io.specs.Texts.{name_test};
-ghost use Rattle.tda_model.specs.Bounds.{persons_limit};
-ghost use Rattle.tda_model.specs.Spine.{IsUnit, level_of, children_of};
+ghost use Rattle.tda_model.specs.Spine.{IsUnit};
 ghost use Rattle.tda_model.specs.Tables.{Tables};
 ghost use Rattle.tda_model.specs.TablesText.{count_row, tables_header, tables_text};
-ghost use Rattle.tda_spine.specs.Sound.{IsSound};
 ghost use Rattle.tda_tool.specs.Attained.{IsAttained};
-ghost use Rattle.tda_tool.specs.Plain.{plain_row, IsHome};
+ghost use Rattle.tda_tool.specs.Plain as spec;
 
-use crate::plain;
-use crate::totals::Totals;
+use crate::homes::homes;
+use crate::inputs::Inputs;
+use crate::plain::{persons, spares};
 use std::alloc::Global;
 use tda_io::{NoMemory, push_field, push_int};
-use tda_schema::Schema;
-use tda_spine::Spine;
-
-// The first possible cell of the first kind.
-fn home_cell(schema: &Schema) -> u32
-    ensures home { IsHome schema.now result }
-    ensures earliest { (j : ℕ) → j < result → IsHome schema.now j → ⊥ }
-{
-    for cell in 0..schema.cells() {
-        if schema.possible(cell) && schema.kind_of(cell) == 0 {
-            return cell;
-        }
-    }
-    // Each kind has a possible cell.
-    let kinds = schema.kinds();
-    prove!(kinds > 0);
-    unreachable!()
-}
 
 // Appends the header.
 fn push_header(out: &mut Vec<u8>) -> Result<(), NoMemory>
@@ -58,63 +39,60 @@ fn push_count(out: &mut Vec<u8>, code: &str, cell: u32, count: u64) -> Result<()
     Ok(())
 }
 
-// Appends the row of a unit below the nation.
+// Appends the rows of a unit.
 fn push_unit(
     out: &mut Vec<u8>,
-    spine: &Spine,
-    totals: &Totals,
-    home: u32,
+    inputs: &Inputs,
+    spares: &[u64],
+    homes: &[u32],
     unit: u32,
 ) -> Result<(), NoMemory>
-    requires sound { IsSound spine.now }
-    requires sized { length totals.now ≡ length spine.now.units }
-    requires unit { IsUnit spine.now unit }
-    requires below { 1 ≤ level_of spine.now unit }
-    ensures { OnOk result (out.new.items ≡ out.old.items ++ plain_row spine.now totals.now home unit) }
+    requires spares { spares.now ≡ spec.spares inputs.now }
+    requires homes { homes.now ≡ spec.homes inputs.now.schema }
+    requires unit { IsUnit inputs.now.spine unit }
+    ensures { OnOk result (out.new.items ≡ out.old.items ++ spec.plain_rows inputs.now unit) }
 {
-    let count = plain::plain_count(spine, totals, unit);
-    push_count(out, spine.code(unit), home, count)
+    let code = inputs.spine().code(unit);
+    let schema = inputs.schema();
+    for home in homes {
+        let count = persons(inputs, spares, unit, schema.kind_of(*home));
+        push_count(out, code, *home, count)?;
+    }
+    Ok(())
 }
 
-// Appends the rows of a unit's children.
-fn push_children(
+// Appends the rows of these units.
+fn push_units(
     out: &mut Vec<u8>,
-    spine: &Spine,
-    totals: &Totals,
-    home: u32,
-    parent: u32,
+    inputs: &Inputs,
+    spares: &[u64],
+    homes: &[u32],
+    units: &[u32],
 ) -> Result<(), NoMemory>
-    requires sound { IsSound spine.now }
-    requires sized { length totals.now ≡ length spine.now.units }
-    requires parent { IsUnit spine.now parent }
-    ensures { OnOk result (out.new.items ≡ out.old.items ++ flat_map (plain_row spine.now totals.now home) (children_of spine.now parent)) }
+    requires spares { spares.now ≡ spec.spares inputs.now }
+    requires homes { homes.now ≡ spec.homes inputs.now.schema }
+    requires units { All (IsUnit inputs.now.spine) units.now }
+    ensures { OnOk result (out.new.items ≡ out.old.items ++ flat_map (spec.plain_rows inputs.now) units.now) }
 {
-    for child in spine.children(parent) {
-        push_unit(out, spine, totals, home, *child)?;
+    for unit in units {
+        push_unit(out, inputs, spares, homes, *unit)?;
     }
     Ok(())
 }
 
 /// The file of the plain tables: a row for each count that isn't 0, the nation's first and then those of the children
-/// of each unit in fit order. All persons are in the first possible cell of the first kind.
-pub(crate) fn tables_text(
-    alloc: Global,
-    schema: &Schema,
-    spine: &Spine,
-    totals: &Totals,
-) -> Result<Vec<u8>, NoMemory>
-    requires sized { length totals.now ≡ length spine.now.units }
-    requires few { sum totals.now ≤ persons_limit }
-    ensures { IfOk result (λ v. (x : Tables) × IsAttained (record { schema = schema.now; spine = spine.now; totals = totals.now }) x × (v.items ≡ tables_text schema.now spine.now x)) }
+/// of each unit in fit order. The persons of each kind are in its first possible cell.
+pub(crate) fn tables_text(alloc: Global, inputs: &Inputs) -> Result<Vec<u8>, NoMemory>
+    ensures { IfOk result (λ v. (x : Tables) × IsAttained inputs.now x × (v.items ≡ tables_text inputs.now.schema inputs.now.spine x)) }
 {
-    let home = home_cell(schema);
-    let nation = spine.nation();
-    let national = plain::national_total(spine, totals);
+    let spares = spares(alloc, inputs)?;
+    let homes = homes(alloc, inputs.schema())?;
+    let spine = inputs.spine();
     let mut out = Vec::new(alloc);
     push_header(&mut out)?;
-    push_count(&mut out, spine.code(nation), home, national)?;
+    push_unit(&mut out, inputs, &spares, &homes, spine.nation())?;
     for parent in spine.parents() {
-        push_children(&mut out, spine, totals, home, *parent)?;
+        push_units(&mut out, inputs, &spares, &homes, spine.children(*parent))?;
     }
     Ok(out)
 }

@@ -2,24 +2,30 @@ ghost use Rattle.std.specs.Prelude.{◌≡◌, ◌-◌, ◌^◌, ◌<◌, IfOk};
 ghost use Rattle.tda_io.specs.Outside.{CountsOut};
 
 use super::*;
+use crate::refusal::{Named, Plain, push_named, push_plain};
 use crate::words::judge;
 use std::alloc::Global;
 use std::test::Fail;
+use tda_invar::{FacFault, JoinFault, TotFault};
 use tda_io::{MemFile, MemInbox, MemOutbox, OutFault, Outbox};
+use tda_schema::{SchemaFault, read_schema};
+use tda_spine::{SpineFault, read_spine};
 
 const SCHEMA: &str =
     "version = 1\ntotal = \"1\"\n\n[[attribute]]\nname = \"kind\"\nvalues = [\"house\"]\n\n[[level]]\nname = \"nation\"\n\n[[level]]\nname = \"state\"\n\n[[level]]\nname = \"block\"\n";
 
-const WITH_QUERY: &str =
-    "version = 1\ntotal = \"1\"\n\n[[attribute]]\nname = \"kind\"\nvalues = [\"house\"]\n\n[[level]]\nname = \"nation\"\n\n[[level]]\nname = \"state\"\n\n[[level]]\nname = \"block\"\nquery = [{ name = \"total\", by = [], share = \"1\" }]\n";
+const OVER_TOTAL: &str =
+    "version = 1\ntotal = \"499/1000\"\n\n[[attribute]]\nname = \"kind\"\nvalues = [\"house\"]\n\n[[level]]\nname = \"nation\"\n\n[[level]]\nname = \"state\"\n\n[[level]]\nname = \"block\"\nquery = [{ name = \"total\", by = [], share = \"1/2\" }]\n";
 
 const SPINE: &str = "unit,level,parent\nUS,nation,\nS1,state,US\nB1,block,S1\nB2,block,S1\n";
 
 const CHILDLESS: &str = "unit,level,parent\nUS,nation,\nS1,state,US\n";
 
+const FACILITIES: &str = "block,kind,count\n";
+
 const TOTALS: &str = "state,total\nS1,5\n";
 
-const WORDS: &str = "fit --schema a --spine b --totals c --tables d";
+const WORDS: &str = "fit --schema a --spine b --facilities c --totals d --tables e";
 
 // The words between spaces.
 fn words_of(alloc: Global, line: &str) -> Result<Vec<String>, Fail> {
@@ -33,12 +39,12 @@ fn words_of(alloc: Global, line: &str) -> Result<Vec<String>, Fail> {
     Ok(words)
 }
 
-// An inbox with a schema `a`, a spine `b` and totals `c`, whose read of this number fails.
-fn inbox_of(alloc: Global, texts: [&str; 3], fail: u64) -> Result<MemInbox, Fail>
+// An inbox with a schema `a`, a spine `b`, facilities `c` and totals `d`, whose read of this number fails.
+fn inbox_of(alloc: Global, texts: [&str; 4], fail: u64) -> Result<MemInbox, Fail>
     ensures { IfOk result (λ inbox. inbox.faults ≡ 0) }
 {
     let mut files = Vec::new(alloc);
-    for (name, text) in ["a", "b", "c"].into_iter().zip(texts) {
+    for (name, text) in ["a", "b", "c", "d"].into_iter().zip(texts) {
         files.push(MemFile {
             name: String::from_str(alloc, name)?,
             bytes: text.as_bytes().to_vec(alloc)?,
@@ -51,7 +57,7 @@ fn inbox_of(alloc: Global, texts: [&str; 3], fail: u64) -> Result<MemInbox, Fail
 fn ran(
     alloc: Global,
     line: &str,
-    texts: [&str; 3],
+    texts: [&str; 4],
     fail_read: u64,
     fail_write: u64,
 ) -> Result<String, Fail> {
@@ -74,30 +80,89 @@ fn fit_gives_the_first_child_all(rt: HostRuntime) -> Result<(), Fail> {
     let table = [
         (
             TOTALS,
-            "0|d=unit,cell,count\nUS,0,5\nS1,0,5\nB1,0,5\n|-=ok fit fits=3\n",
+            "0|e=unit,cell,count\nUS,0,5\nS1,0,5\nB1,0,5\n|-=ok fit fits=3\n",
         ),
         (
             "state,total\nS1,0\n",
-            "0|d=unit,cell,count\n|-=ok fit fits=3\n",
+            "0|e=unit,cell,count\n|-=ok fit fits=3\n",
         ),
     ];
     for (totals, want) in table {
-        let shown = ran(rt.alloc(), WORDS, [SCHEMA, SPINE, totals], 0, 0)?;
+        let shown = ran(rt.alloc(), WORDS, [SCHEMA, SPINE, FACILITIES, totals], 0, 0)?;
         assert_eq!(rt; shown.as_str(), want);
     }
     Ok(())
 }
 
 #[test]
-fn a_refused_file_is_named(rt: HostRuntime) -> Result<(), Fail> {
+fn a_refused_file_is_named_with_its_fault(rt: HostRuntime) -> Result<(), Fail> {
     let table = [
-        ([WITH_QUERY, SPINE, TOTALS], "3|-=refused schema NotYet\n"),
-        ([SCHEMA, CHILDLESS, TOTALS], "3|-=refused spine NotYet\n"),
         (
-            [SCHEMA, SPINE, "state,total\n"],
-            "3|-=refused totals NotYet\n",
+            ["", SPINE, FACILITIES, TOTALS],
+            "3|-=refused schema MissingKey\n",
         ),
-        ([SPINE, CHILDLESS, ""], "3|-=refused schema NotYet\n"),
+        ([SPINE, CHILDLESS, "", ""], "3|-=refused schema BadToml\n"),
+        (
+            [OVER_TOTAL, SPINE, FACILITIES, TOTALS],
+            "3|-=refused schema OverTotal\n",
+        ),
+        (
+            [SCHEMA, CHILDLESS, FACILITIES, TOTALS],
+            "3|-=refused spine Childless 3\n",
+        ),
+        (
+            [SCHEMA, "unit,level,parent\nUS,nation\n", "", TOTALS],
+            "3|-=refused spine BadRow 2\n",
+        ),
+        (
+            [SCHEMA, "unit,level,parent\nUS,nation,UK\n", "", ""],
+            "3|-=refused spine UnknownParent 2\n",
+        ),
+        (
+            [SCHEMA, SPINE, "", "state,total\n"],
+            "3|-=refused facilities BadHeader 1\n",
+        ),
+        (
+            [
+                SCHEMA,
+                SPINE,
+                "block,kind,count\nB1,house,1\n",
+                "state,total\n",
+            ],
+            "3|-=refused facilities Household 2\n",
+        ),
+        (
+            [SCHEMA, SPINE, "block,kind,count\nS1,dorm,1\n", TOTALS],
+            "3|-=refused facilities UnknownBlock 2\n",
+        ),
+        (
+            [SCHEMA, SPINE, "block,kind,count\nB2,dorm,1\n", TOTALS],
+            "3|-=refused facilities UnknownKind 2\n",
+        ),
+        (
+            [SCHEMA, SPINE, "block,kind,count\nB1,house\n", TOTALS],
+            "3|-=refused facilities BadRow 2\n",
+        ),
+        (
+            [SCHEMA, SPINE, FACILITIES, "state,total\nS1\n"],
+            "3|-=refused totals BadRow 2\n",
+        ),
+        (
+            [SCHEMA, SPINE, FACILITIES, FACILITIES],
+            "3|-=refused totals BadHeader 1\n",
+        ),
+        (
+            [SCHEMA, SPINE, FACILITIES, "state,total\n"],
+            "3|-=refused totals Missing S1\n",
+        ),
+        (
+            [SCHEMA, SPINE, FACILITIES, "state,total\nS1,1073741825\n"],
+            "3|-=refused totals BadCount 2\n",
+        ),
+        (
+            [SCHEMA, SPINE, FACILITIES, "state,total\nS1,5\nS1,5\n"],
+            "3|-=refused totals Repeated 3\n",
+        ),
     ];
     for (texts, want) in table {
         let shown = ran(rt.alloc(), WORDS, texts, 0, 0)?;
@@ -106,35 +171,188 @@ fn a_refused_file_is_named(rt: HostRuntime) -> Result<(), Fail> {
     Ok(())
 }
 
+const TWO_STATES: &str =
+    "unit,level,parent\nUS,nation,\nS1,state,US\nS2,state,US\nB1,block,S1\nB2,block,S2\n";
+
+#[test]
+fn states_have_their_totals(rt: HostRuntime) -> Result<(), Fail> {
+    let table = [
+        (
+            "state,total\nS2,7\nS1,5\n",
+            "0|e=unit,cell,count\nUS,0,12\nS1,0,5\nS2,0,7\nB1,0,5\nB2,0,7\n|-=ok fit fits=4\n",
+        ),
+        (
+            "state,total\nS1,1073741824\nS2,0\n",
+            "0|e=unit,cell,count\nUS,0,1073741824\nS1,0,1073741824\nB1,0,1073741824\n|-=ok fit fits=4\n",
+        ),
+        (
+            "state,total\nS1,1073741824\nS2,1\n",
+            "3|-=refused totals TooManyPersons\n",
+        ),
+        ("state,total\nS1,5\n", "3|-=refused totals Missing S2\n"),
+        (
+            "state,total\nS1,5\nS2,7\nB1,5\n",
+            "3|-=refused totals UnknownState 4\n",
+        ),
+    ];
+    for (totals, want) in table {
+        let texts = [SCHEMA, TWO_STATES, FACILITIES, totals];
+        let shown = ran(rt.alloc(), WORDS, texts, 0, 0)?;
+        assert_eq!(rt; shown.as_str(), want);
+    }
+    Ok(())
+}
+
+const FAULTS: [(Plain, &str); 36] = [
+    (Plain::TooLong, "TooLong"),
+    (Plain::Schema(SchemaFault::BadToml), "BadToml"),
+    (Plain::Schema(SchemaFault::UnknownKey), "UnknownKey"),
+    (Plain::Schema(SchemaFault::MissingKey), "MissingKey"),
+    (Plain::Schema(SchemaFault::WrongType), "WrongType"),
+    (Plain::Schema(SchemaFault::BadName), "BadName"),
+    (Plain::Schema(SchemaFault::Repeated), "Repeated"),
+    (Plain::Schema(SchemaFault::BadSize), "BadSize"),
+    (Plain::Schema(SchemaFault::UnknownName), "UnknownName"),
+    (Plain::Schema(SchemaFault::BadShare), "BadShare"),
+    (Plain::Schema(SchemaFault::Denominator), "Denominator"),
+    (Plain::Schema(SchemaFault::OverTotal), "OverTotal"),
+    (Plain::Schema(SchemaFault::NotNested), "NotNested"),
+    (
+        Plain::Schema(SchemaFault::KindWithoutCell),
+        "KindWithoutCell",
+    ),
+    (Plain::Schema(SchemaFault::NoMemory), ""),
+    (Plain::Spine(SpineFault::BadRow(2)), "BadRow 2"),
+    (Plain::Spine(SpineFault::BadHeader(1)), "BadHeader 1"),
+    (Plain::Spine(SpineFault::BadCode(10)), "BadCode 10"),
+    (Plain::Spine(SpineFault::Repeated(3)), "Repeated 3"),
+    (
+        Plain::Spine(SpineFault::UnknownParent(131073)),
+        "UnknownParent 131073",
+    ),
+    (Plain::Spine(SpineFault::WrongLevel(4)), "WrongLevel 4"),
+    (Plain::Spine(SpineFault::NoNation), "NoNation"),
+    (Plain::Spine(SpineFault::Childless(1)), "Childless 3"),
+    (Plain::Spine(SpineFault::TooMany), "TooMany"),
+    (Plain::Spine(SpineFault::FitTooLarge(None)), "FitTooLarge -"),
+    (
+        Plain::Spine(SpineFault::FitTooLarge(Some(1))),
+        "FitTooLarge 3",
+    ),
+    (Plain::Spine(SpineFault::NoMemory), ""),
+    (Plain::Facilities(FacFault::BadRow(3)), "BadRow 3"),
+    (Plain::Facilities(FacFault::BadHeader(1)), "BadHeader 1"),
+    (
+        Plain::Facilities(FacFault::UnknownBlock(2)),
+        "UnknownBlock 2",
+    ),
+    (Plain::Facilities(FacFault::UnknownKind(2)), "UnknownKind 2"),
+    (Plain::Facilities(FacFault::Household(2)), "Household 2"),
+    (Plain::Facilities(FacFault::BadCount(2)), "BadCount 2"),
+    (Plain::Facilities(FacFault::Repeated(3)), "Repeated 3"),
+    (
+        Plain::Facilities(FacFault::Repeated(18446744073709551615)),
+        "Repeated 18446744073709551615",
+    ),
+    (Plain::Facilities(FacFault::NoMemory), ""),
+];
+
+#[test]
+fn a_fault_is_printed_with_its_row(rt: HostRuntime) -> Result<(), Fail> {
+    for (fault, want) in FAULTS {
+        let mut out = Vec::new(rt.alloc());
+        push_plain(&fault, &mut out)?;
+        assert_eq!(rt; out.as_slice(), want.as_bytes());
+    }
+    Ok(())
+}
+
+#[test]
+fn a_fault_is_printed_with_its_state(rt: HostRuntime) -> Result<(), Fail> {
+    let schema = read_schema(rt.alloc(), SCHEMA.as_bytes())?;
+    let spine = read_spine(rt.alloc(), &schema, TWO_STATES.as_bytes())?;
+    assert_eq!(rt; spine.units(), 5);
+    let mut out = Vec::from_slice(rt.alloc(), b"refused ")?;
+    push_named(&spine, &Named::Totals(TotFault::Missing(2)), &mut out)?;
+    out.push(b'|')?;
+    let short = JoinFault::Short {
+        state: 1,
+        total: 1,
+        needed: 1048576,
+    };
+    push_named(&spine, &Named::Join(short), &mut out)?;
+    push_named(&spine, &Named::Join(JoinFault::NoMemory), &mut out)?;
+    assert_eq!(rt;
+        out.as_slice(),
+        b"refused Missing S2|Short S1 1 1048576".as_slice()
+    );
+    Ok(())
+}
+
 #[test]
 fn words_are_a_command_and_its_pairs(rt: HostRuntime) -> Result<(), Fail> {
     let table = [
-        ("fit --tables d --spine b --schema a --totals c", true),
-        ("fit --schema a --spine a --totals - --tables d", true),
+        (WORDS, true),
         (
-            "fit --schema --spine --spine b --totals c --tables --schema",
+            "fit --tables e --spine b --totals d --schema a --facilities c",
+            true,
+        ),
+        (
+            "fit --schema a --spine a --facilities a --totals - --tables e",
+            true,
+        ),
+        (
+            "fit --schema --spine --spine b --facilities c --totals d --tables --schema",
             true,
         ),
         ("", false),
         ("fit", false),
         ("fit --schema a --schema b", false),
-        ("fit --schema a --spine b --totals c --tables -", false),
-        ("fit --schema a --spine b --totals c --tables b", false),
-        ("fit --schema a --spine b --totals  --tables d", false),
-        ("fit --schema a --spine b --totals c --tables d e", false),
-        ("fit --schema a --spine b --totals c --tables d --e", false),
+        ("fit --schema a --spine b --totals d --tables e", false),
         (
-            "fit --schema a --spine b --totals c --tables d --seed e",
+            "fit --schema a --spine b --facilities c --totals d --tables -",
             false,
         ),
-        ("fit --schema a --spine b --totals c --seed d", false),
-        ("fit --schema a --spine b --totals c tables d", false),
-        ("fit --schema a --schema a --totals c --tables d", false),
         (
-            "fit --schema a --spine b --totals c --tables d --tables e",
+            "fit --schema a --spine b --facilities c --totals d --tables c",
             false,
         ),
-        ("run --schema a --spine b --totals c --tables d", false),
+        (
+            "fit --schema a --spine b --facilities  --totals d --tables e",
+            false,
+        ),
+        (
+            "fit --schema a --spine b --facilities c --totals d --tables e f",
+            false,
+        ),
+        (
+            "fit --schema a --spine b --facilities c --totals d --tables e --f",
+            false,
+        ),
+        (
+            "fit --schema a --spine b --facilities c --totals d --tables e --seed f",
+            false,
+        ),
+        (
+            "fit --schema a --spine b --facilities c --totals d --seed e",
+            false,
+        ),
+        (
+            "fit --schema a --spine b --facilities c --totals d tables e",
+            false,
+        ),
+        (
+            "fit --schema a --schema a --facilities c --totals d --tables e",
+            false,
+        ),
+        (
+            "fit --schema a --spine b --facilities c --totals d --tables e --tables f",
+            false,
+        ),
+        (
+            "run --schema a --spine b --facilities c --totals d --tables e",
+            false,
+        ),
     ];
     for (line, want) in table {
         let words = words_of(rt.alloc(), line)?;
@@ -146,7 +364,7 @@ fn words_are_a_command_and_its_pairs(rt: HostRuntime) -> Result<(), Fail> {
 #[test]
 fn other_words_have_their_report(rt: HostRuntime) -> Result<(), Fail> {
     for line in ["", "fit --schema a --schema b"] {
-        let shown = ran(rt.alloc(), line, [SCHEMA, SPINE, TOTALS], 0, 0)?;
+        let shown = ran(rt.alloc(), line, [SCHEMA, SPINE, FACILITIES, TOTALS], 0, 0)?;
         assert_eq!(rt; shown.as_str(), "2|-=words\n", "at {line}");
     }
     Ok(())
@@ -157,32 +375,39 @@ fn each_failing_call_has_its_status(rt: HostRuntime) -> Result<(), Fail> {
     let table = [
         (1, 0, "4|-=read schema\n"),
         (2, 0, "4|-=read spine\n"),
-        (3, 0, "4|-=read totals\n"),
+        (3, 0, "4|-=read facilities\n"),
+        (4, 0, "4|-=read totals\n"),
         (
-            4,
+            5,
             7,
-            "0|d=unit,cell,count\nUS,0,5\nS1,0,5\nB1,0,5\n|-=ok fit fits=3\n",
+            "0|e=unit,cell,count\nUS,0,5\nS1,0,5\nB1,0,5\n|-=ok fit fits=3\n",
         ),
         (0, 1, "5"),
-        (0, 2, "5|d=unit,cell,count\nUS"),
-        (0, 3, "5|d=unit,cell,count\nUS,0,5\nS1,0,5\nB1,0,5\n"),
-        (0, 4, "5|d=unit,cell,count\nUS,0,5\nS1,0,5\nB1,0,5\n"),
+        (0, 2, "5|e=unit,cell,count\nUS"),
+        (0, 3, "5|e=unit,cell,count\nUS,0,5\nS1,0,5\nB1,0,5\n"),
+        (0, 4, "5|e=unit,cell,count\nUS,0,5\nS1,0,5\nB1,0,5\n"),
         (
             0,
             5,
-            "5|d=unit,cell,count\nUS,0,5\nS1,0,5\nB1,0,5\n|-=ok fit ",
+            "5|e=unit,cell,count\nUS,0,5\nS1,0,5\nB1,0,5\n|-=ok fit ",
         ),
         (
             0,
             6,
-            "5|d=unit,cell,count\nUS,0,5\nS1,0,5\nB1,0,5\n|-=ok fit fits=3\n",
+            "5|e=unit,cell,count\nUS,0,5\nS1,0,5\nB1,0,5\n|-=ok fit fits=3\n",
         ),
         (2, 1, "5"),
         (2, 2, "5|-=read "),
         (2, 3, "5|-=read spine\n"),
     ];
     for (read, write, want) in table {
-        let shown = ran(rt.alloc(), WORDS, [SCHEMA, SPINE, TOTALS], read, write)?;
+        let shown = ran(
+            rt.alloc(),
+            WORDS,
+            [SCHEMA, SPINE, FACILITIES, TOTALS],
+            read,
+            write,
+        )?;
         assert_eq!(rt; shown.as_str(), want, "at {read} {write}");
     }
     Ok(())
@@ -246,7 +471,7 @@ fn no_call_follows_one_that_failed(rt: HostRuntime) -> Result<(), Fail> {
         (2, 3),
     ];
     for (read, fail) in table {
-        let mut inbox = inbox_of(alloc, [SCHEMA, SPINE, TOTALS], read)?;
+        let mut inbox = inbox_of(alloc, [SCHEMA, SPINE, FACILITIES, TOTALS], read)?;
         let mut outbox = Counter {
             calls: 0,
             fail,

@@ -7,7 +7,7 @@ ghost use Rattle.tda_tool.specs.Words.{pairs_of, value_in, times_in, dashed, for
 /// What the program is asked to do.
 #[derive(Clone, Copy, Debug, PartialEq, Eq)]
 pub(crate) enum Command {
-    /// Tables from given totals.
+    /// Tables from given facilities and totals.
     Fit,
 }
 
@@ -29,7 +29,7 @@ impl Command {
         ensures { map (λ name. name.now) result.now ≡ (form_of self).reads }
     {
         match self {
-            Command::Fit => &["schema", "spine", "totals"],
+            Command::Fit => &["schema", "spine", "facilities", "totals"],
         }
     }
 

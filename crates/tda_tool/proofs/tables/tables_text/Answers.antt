@@ -1,23 +1,28 @@
-use Rattle.std.proofs.Common.{◌++◌, All, subst, sym, ap, ◌∙◌, take_all}
+use Rattle.std.proofs.Common.{◌++◌, All, subst, sym, ap, ◌∙◌, take_all, get_or}
 use Rattle.std.specs.List.{flat_map}
-use Rattle.tda_model.specs.Spine.{nation_of, children_of, IsUnit}
+use Rattle.tda_model.specs.Spine.{nation_of, children_of, parents_of, IsUnit}
 use Rattle.tda_model.specs.TablesText.{tables_header}
-use Rattle.tda_tool.specs.Plain.{plain_row}
+use Rattle.tda_tool.specs.Plain.{plain_rows}
 use Rattle.tda_tool.proofs.Parents.{each_parent}
+use Rattle.tda_tool.proofs.PlainCounts.{children_here}
 use Rattle.tda_tool.proofs.PlainText.{plain_owed}
 use Rattle.tda_tool.proofs.tables.tables_text.Goals as goal
 
-pub push_children-requires-clause-parent : goal.push_children-requires-clause-parent
-push_children-requires-clause-parent c =
-    subst (All (IsUnit c.args.spine.now)) (sym c.parents-parent-items.ensures) (each_parent c.args.spine.now (IsUnit c.args.spine.now) c.nation-nation.ensures.sound.tree (λ p here low. here))
-    c.loop-parent.parent-index 0 c.loop-parent-test.true
+pub children-requires : goal.children-requires
+children-requires c =
+    let sp = c.spine-spine.result.now in
+    subst (All (IsUnit sp)) (sym c.parents-parent-items.ensures) (each_parent sp (IsUnit sp) c.nation.ensures.sound.tree (λ p here low. here)) c.loop-parent.parent-index 0 c.loop-parent-test.true
+
+pub push_units-requires-clause-units : goal.push_units-requires-clause-units
+push_units-requires-clause-units c =
+    let sp = c.args.inputs.now.spine in
+    let parent = get_or c.parents-parent-items.result.now c.loop-parent.parent-index 0 in
+    subst (All (IsUnit sp)) (sym (c.children.ensures ∙ ap (λ tree. children_of tree parent) c.spine-spine.ensures.value)) (children_here sp parent)
 
 pub returns : goal.returns
 returns c =
-    let sp = c.args.spine.now in
-    let home = c.home_cell-home.result in
-    let row = plain_row sp c.args.totals.now home in
-    plain_owed c.args.schema.now sp c.args.totals.now home c.loop-parent.out.items c.home_cell-home.ensures.home c.nation-nation.ensures.sound.tree c.requires.sized c.requires.few
+    let i = c.args.inputs.now in
+    plain_owed i c.loop-parent.out.items c.spine-spine.ensures.sound
     (c.loop-parent.invariant
-    ∙ ap (λ ps. (tables_header ++ row (nation_of sp)) ++ flat_map (λ p. flat_map row (children_of sp p)) ps)
-    (take_all _ _ c.loop-parent-test.false ∙ c.parents-parent-items.ensures))
+    ∙ ap (λ ps. (tables_header ++ plain_rows i (nation_of i.spine)) ++ flat_map (λ p. flat_map (plain_rows i) (children_of i.spine p)) ps)
+    (take_all _ _ c.loop-parent-test.false ∙ c.parents-parent-items.ensures ∙ ap parents_of c.spine-spine.ensures.value))

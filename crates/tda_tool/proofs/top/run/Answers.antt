@@ -1,5 +1,5 @@
 use Rattle.std.proofs.Common.{map, string_bytes, Ok}
-use Rattle.tda_tool.proofs.Reading.{asks_prepared}
+use Rattle.tda_tool.proofs.Asked.{asks_prepared}
 use Rattle.tda_tool.proofs.Begun.{begun_alone}
 use Rattle.tda_tool.proofs.Ran.{begun_by, begun_when_due}
 use Rattle.tda_tool.proofs.top.run.Goals as goal

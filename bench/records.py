@@ -1,0 +1,206 @@
+#!/usr/bin/env python3
+"""Times the reading of records, beside a loop over the same rows that does nothing but read them by the csv crate.
+
+Files of growing size are read by a program that is made, proved and built in a temporary folder outside the repository.
+Prints for each number of records the nanoseconds of one record, those of the csv crate's own loop, the ratio to the former
+size, which is at most 4.6 for four times as many, and the peak memory that a reading adds, beside the bytes of the file and
+8 for each record.  Usage: bench/records.py
+"""
+import os
+import pathlib
+import random
+import subprocess
+import sys
+import tempfile
+
+from made import build
+
+SIZES = [100_000, 400_000, 1_600_000]
+RECORDS_IN_ALL = 3_200_000
+ROUNDS = 9
+MOST_RATIO = 4.6
+STATES, BLOCKS = 100, 200
+ATTRIBUTES = {"kind": ["house"]}
+
+PROGRAM = r'''
+//! Reads a file of records again and again, or only its rows by the csv crate.
+//! Words: `records` or `rows`, how many times, and the files of a schema, a spine and records. It prints how many records or
+//! rows there were in all.
+#![tactic(auto)]
+
+ghost use Rattle.std.specs.Prelude.{◌≤◌, ◌^◌, length};
+
+use csv::{ByteRecord, ReaderBuilder};
+use std::alloc::Global;
+use std::{env, io};
+use tda_io::{DirInbox, Inbox, NoMemory};
+use tda_records::read_records;
+use tda_schema::read_schema;
+use tda_spine::read_spine;
+
+const LIMIT: usize = 1 << 28;
+
+fn count_rows(alloc: Global, bytes: &[u8]) -> u64 {
+    let mut reader = ReaderBuilder::new()
+        .has_headers(false)
+        .flexible(true)
+        .from_reader(alloc, bytes);
+    let mut row = ByteRecord::new(alloc);
+    let mut fields = 0u64;
+    let mut rows = 0u64;
+    for _ in 0..u64::MAX {
+        let Ok(found) = reader.read_byte_record(&mut row) else {
+            return 0;
+        };
+        if !found {
+            break;
+        }
+        rows = rows.wrapping_add(1);
+        fields = fields.wrapping_add(row.len() as u64);
+    }
+    if fields == 0 { 0 } else { rows }
+}
+
+fn count_records(alloc: Global, schema: &[u8], spine: &[u8], bytes: &[u8], times: u32) -> u64
+    requires schema { length schema.now ≤ 2 ^ 28 }
+    requires spine { length spine.now ≤ 2 ^ 28 }
+    requires bytes { length bytes.now ≤ 2 ^ 28 }
+{
+    let mut count = 0u64;
+    let Ok(schema) = read_schema(alloc, schema) else {
+        return 0;
+    };
+    let Ok(spine) = read_spine(alloc, &schema, spine) else {
+        return 0;
+    };
+    for _ in 0..times {
+        if let Ok(records) = read_records(alloc, &schema, &spine, bytes) {
+            count = count.wrapping_add(records.len() as u64);
+        }
+    }
+    count
+}
+
+fn counted(
+    alloc: Global,
+    what: &str,
+    times: u32,
+    schema: &[u8],
+    spine: &[u8],
+    bytes: &[u8],
+) -> u64 {
+    let mut count = 0u64;
+    if what == "records" {
+        if schema.len() > LIMIT || spine.len() > LIMIT || bytes.len() > LIMIT {
+            return 0;
+        }
+        return count_records(alloc, schema, spine, bytes, times);
+    }
+    for _ in 0..times {
+        count = count.wrapping_add(count_rows(alloc, bytes));
+    }
+    count
+}
+
+fn main(rt: HostRuntime) -> io::Result<()> {
+    let alloc = rt.alloc();
+    let mut words = Vec::new(alloc);
+    for word in env::args(&rt)?.skip(1) {
+        words.push(word)?;
+    }
+    let [what, times, schema, spine, records] = words.as_slice() else {
+        return println!(rt; "no words");
+    };
+    let mut inbox = DirInbox::new(&rt);
+    let Ok(schema) = inbox.read(alloc, schema.as_str(), LIMIT) else {
+        return println!(rt; "no schema");
+    };
+    let mut inbox = DirInbox::new(&rt);
+    let Ok(spine) = inbox.read(alloc, spine.as_str(), LIMIT) else {
+        return println!(rt; "no spine");
+    };
+    let mut inbox = DirInbox::new(&rt);
+    let Ok(records) = inbox.read(alloc, records.as_str(), LIMIT) else {
+        return println!(rt; "no records");
+    };
+    let times = times.parse::<u32>().unwrap_or(0);
+    let count = counted(alloc, what.as_str(), times, &schema, &spine, &records);
+    println!(rt; "{count}")
+}
+'''
+
+
+def write_schema(folder):
+    text = ['version = 1\ntotal = "1"\n']
+    for name, values in ATTRIBUTES.items():
+        listed = ", ".join(f'"{value}"' for value in values)
+        text.append(f'[[attribute]]\nname = "{name}"\nvalues = [{listed}]\n')
+    for level in ["nation", "state", "block"]:
+        text.append(f'[[level]]\nname = "{level}"\n')
+    (folder / "schema.toml").write_text("\n".join(text))
+
+
+def write_spine(folder):
+    rows = ["unit,level,parent", "US,nation,"]
+    for state in range(STATES):
+        rows.append(f"S{state},state,US")
+        rows += [f"S{state}B{block},block,S{state}" for block in range(BLOCKS)]
+    (folder / "spine.csv").write_text("\n".join(rows) + "\n")
+
+
+def write_records(folder, count):
+    """Records of random blocks and values, and how many bytes they are."""
+    draw = random.Random(count)
+    rows = [",".join(["block", *ATTRIBUTES])]
+    for _ in range(count):
+        block = f"S{draw.randrange(STATES)}B{draw.randrange(BLOCKS)}"
+        rows.append(",".join([block, *(draw.choice(values) for values in ATTRIBUTES.values())]))
+    text = "\n".join(rows) + "\n"
+    (folder / "records.csv").write_text(text)
+    return len(text)
+
+
+def run(program, folder, what, times, due):
+    """The processor's seconds and the peak memory in bytes of one run."""
+    files = [str(folder / name) for name in ["schema.toml", "spine.csv", "records.csv"]]
+    child = subprocess.Popen([program, what, str(times), *files], stdout=subprocess.PIPE, text=True)
+    said = child.stdout.read().strip()
+    _, status, usage = os.wait4(child.pid, 0)
+    child.returncode = os.waitstatus_to_exitcode(status)
+    if child.returncode != 0 or said != str(due):
+        sys.exit(f"{what}, {times} times: status {child.returncode}, {said}")
+    return usage.ru_utime + usage.ru_stime, usage.ru_maxrss * 1024
+
+
+def measured(program, folder, what, count, each):
+    """The seconds of reading once, and the peak memory that it adds, by the best of some rounds."""
+    times = max(1, RECORDS_IN_ALL // count)
+    best = {n: min(run(program, folder, what, n, n * each) for _ in range(ROUNDS)) for n in [0, times]}
+    return (best[times][0] - best[0][0]) / times, best[times][1] - best[0][1]
+
+
+def main():
+    with tempfile.TemporaryDirectory() as name:
+        folder = pathlib.Path(name)
+        uses = ["tda_records", "tda_spine", "tda_schema", "tda_io", "csv"]
+        program = build(folder, "bench_records", uses, PROGRAM)
+        write_schema(folder)
+        write_spine(folder)
+        print(f"{'records':>9} {'ns each':>8} {'csv':>6} {'ratio':>6} {'MB added':>9} {'file':>6} {'8 each':>7}")
+        former, good = None, True
+        for count in SIZES:
+            size = write_records(folder, count)
+            seconds, peak = measured(program, folder, "records", count, count)
+            rows, _ = measured(program, folder, "rows", count, count + 1)
+            ratio = "" if former is None else f"{seconds / former:.2f}"
+            good = good and (former is None or seconds / former <= MOST_RATIO)
+            print(
+                f"{count:>9} {seconds / count * 1e9:>8.1f} {rows / count * 1e9:>6.1f} {ratio:>6}"
+                f" {peak / 1e6:>9.1f} {size / 1e6:>6.1f} {8 * count / 1e6:>7.1f}"
+            )
+            former = seconds
+        sys.exit(0 if good else 1)
+
+
+if __name__ == "__main__":
+    main()

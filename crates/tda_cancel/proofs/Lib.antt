@@ -1,0 +1,9 @@
+pub mod Signed
+pub mod Lists
+pub mod Listed
+pub mod Lowered
+pub mod History
+pub mod Traced
+pub mod Closed
+pub mod Settled
+pub mod Prices

@@ -1,0 +1,14 @@
+pub mod Sum
+pub mod Network
+pub mod Turns
+pub mod Lanes
+pub mod NetView
+pub mod Flow
+pub mod Certificate
+pub mod Judged
+pub mod Walk
+pub mod Moved
+pub mod Reach
+pub mod Search
+pub mod Rooms
+pub mod Tables

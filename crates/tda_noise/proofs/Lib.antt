@@ -1,0 +1,13 @@
+pub mod CoinDraws
+pub mod Counted
+pub mod Digits
+pub mod GaussianDraws
+pub mod LaplaceDraws
+pub mod Peel
+pub mod Scales
+pub mod Signs
+pub mod UniformDraws
+pub mod Within
+pub mod Worked
+pub mod Pieces
+pub mod Outcomes

@@ -1,0 +1,4 @@
+pub mod Answers
+pub mod Draws
+pub mod Pieces
+pub mod Outcomes

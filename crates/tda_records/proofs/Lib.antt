@@ -1,0 +1,5 @@
+pub mod Ranges
+pub mod CellNumbers
+pub mod RowLemmas
+pub mod Gathering
+pub mod HeaderLemmas

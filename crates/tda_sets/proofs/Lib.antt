@@ -1,0 +1,10 @@
+pub mod Ranges
+pub mod Families
+pub mod Splits
+pub mod Keys
+pub mod Members
+pub mod Nesting
+pub mod Kept
+pub mod AllNested
+pub mod Once
+pub mod Fresh

@@ -1,0 +1,224 @@
+// Why a file isn't accepted, and how that is printed.
+ghost use Rattle.std.specs.Prelude.{◌≡◌, ◌++◌, OnOk, OnErr};
+ghost use Rattle.tda_tool.specs.Refusal as spec;
+
+use crate::reading::File;
+use itoa::Buffer;
+use std::alloc::Global;
+use tda_invar::{FacFault, JoinFault, TotFault};
+use tda_io::NoMemory;
+use tda_schema::SchemaFault;
+use tda_spine::{Spine, SpineFault};
+
+/// Why a file isn't accepted, said without the names of other files.
+#[derive(Clone, Copy, Debug, PartialEq, Eq)]
+pub(crate) enum Plain {
+    /// It has more bytes than are read.
+    TooLong,
+    Schema(SchemaFault),
+    Spine(SpineFault),
+    Facilities(FacFault),
+}
+
+/// Why a file isn't accepted, said with the codes of units.
+#[derive(Clone, Copy, Debug, PartialEq, Eq)]
+pub(crate) enum Named {
+    Totals(TotFault),
+    /// The totals don't go with the facilities.
+    Join(JoinFault),
+}
+
+/// A file that isn't accepted, and the text of its fault.
+#[derive(Debug, Drop)]
+pub(crate) struct Refusal {
+    pub(crate) file: File,
+    pub(crate) fault: Vec<u8>,
+}
+
+impl Refusal {
+    ghost use Rattle.std.specs.Prelude.{◌≡◌, IfOk};
+    ghost use Rattle.tda_tool.specs.Reading.{name_of};
+    ghost use Rattle.tda_tool.specs.Due.{refused_ending};
+
+    /// The line of the report that tells it.
+    pub(crate) fn line(&self, alloc: Global) -> Result<Vec<u8>, NoMemory>
+        ensures { IfOk result (λ v. v.items ≡ (refused_ending (name_of self.now.file) self.now.fault.items).report) }
+    {
+        let name = self.file.name();
+        let mut line = format!(in alloc; "refused {name} ")?.into_bytes();
+        line.extend_from_slice(&self.fault)?;
+        line.push(b'\n')?;
+        Ok(line)
+    }
+}
+
+// The name of a fault of a schema.
+fn schema_text(fault: SchemaFault) -> &'static str
+    ensures { result.now ≡ spec.schema_text fault }
+{
+    match fault {
+        SchemaFault::BadToml => "BadToml",
+        SchemaFault::UnknownKey => "UnknownKey",
+        SchemaFault::MissingKey => "MissingKey",
+        SchemaFault::WrongType => "WrongType",
+        SchemaFault::BadName => "BadName",
+        SchemaFault::Repeated => "Repeated",
+        SchemaFault::BadSize => "BadSize",
+        SchemaFault::UnknownName => "UnknownName",
+        SchemaFault::BadShare => "BadShare",
+        SchemaFault::Denominator => "Denominator",
+        SchemaFault::OverTotal => "OverTotal",
+        SchemaFault::NotNested => "NotNested",
+        SchemaFault::KindWithoutCell => "KindWithoutCell",
+        SchemaFault::NotYet => "NotYet",
+        SchemaFault::NoMemory => "",
+    }
+}
+
+// Appends a name.
+fn push_name(out: &mut Vec<u8>, name: &str) -> Result<(), NoMemory>
+    ensures ok { OnOk result (out.new.items ≡ out.old.items ++ name.now) }
+    ensures err { OnErr result (out.new.items ≡ out.old.items) }
+{
+    out.reserve(name.len())?;
+    out.extend_from_slice(name.as_bytes()).unwrap();
+    Ok(())
+}
+
+// Appends a name and, after a space, a unit's code.
+fn push_coded(out: &mut Vec<u8>, name: &str, code: &str) -> Result<(), NoMemory>
+    ensures ok { OnOk result (out.new.items ≡ out.old.items ++ spec.coded name.now code.now) }
+    ensures err { OnErr result (out.new.items ≡ out.old.items) }
+{
+    out.reserve(name.len() + 1 + code.len())?;
+    out.extend_from_slice(name.as_bytes()).unwrap();
+    out.push(b' ').unwrap();
+    out.extend_from_slice(code.as_bytes()).unwrap();
+    Ok(())
+}
+
+// Appends a name and, after a space, a number.
+fn push_numbered(out: &mut Vec<u8>, name: &str, number: u64) -> Result<(), NoMemory>
+    ensures ok { OnOk result (out.new.items ≡ out.old.items ++ spec.numbered name.now number) }
+    ensures err { OnErr result (out.new.items ≡ out.old.items) }
+{
+    let mut buffer = Buffer::new();
+    push_coded(out, name, buffer.format(number))
+}
+
+// Appends that a state's total is below what its facilities need.
+fn push_short(out: &mut Vec<u8>, code: &str, total: u64, needed: u64) -> Result<(), NoMemory>
+    ensures ok { OnOk result (out.new.items ≡ out.old.items ++ spec.short code.now total needed) }
+    ensures err { OnErr result (out.new.items ≡ out.old.items) }
+{
+    let mut total_buffer = Buffer::new();
+    let mut needed_buffer = Buffer::new();
+    let total = total_buffer.format(total).as_bytes();
+    let needed = needed_buffer.format(needed).as_bytes();
+    out.reserve(8 + code.len() + total.len() + needed.len())?;
+    out.extend_from_slice(b"Short ").unwrap();
+    out.extend_from_slice(code.as_bytes()).unwrap();
+    out.push(b' ').unwrap();
+    out.extend_from_slice(total).unwrap();
+    out.push(b' ').unwrap();
+    out.extend_from_slice(needed).unwrap();
+    Ok(())
+}
+
+// The row of a unit in the spine's file.
+fn row_of(unit: u32) -> u64
+    ensures { result ≡ spec.row_of unit }
+{
+    u64::from(unit) + 2
+}
+
+// Appends the name of a fault of a spine, and the row that it carries.
+fn push_spine(fault: SpineFault, out: &mut Vec<u8>) -> Result<(), NoMemory>
+    ensures ok { OnOk result (out.new.items ≡ out.old.items ++ spec.spine_text fault) }
+    ensures err { OnErr result (out.new.items ≡ out.old.items) }
+{
+    match fault {
+        SpineFault::BadRow(row) => push_numbered(out, "BadRow", row),
+        SpineFault::BadHeader(row) => push_numbered(out, "BadHeader", row),
+        SpineFault::BadCode(row) => push_numbered(out, "BadCode", row),
+        SpineFault::Repeated(row) => push_numbered(out, "Repeated", row),
+        SpineFault::UnknownParent(row) => push_numbered(out, "UnknownParent", row),
+        SpineFault::WrongLevel(row) => push_numbered(out, "WrongLevel", row),
+        SpineFault::NoNation => push_name(out, "NoNation"),
+        SpineFault::Childless(unit) => push_numbered(out, "Childless", row_of(unit)),
+        SpineFault::TooMany => push_name(out, "TooMany"),
+        SpineFault::FitTooLarge(None) => push_name(out, "FitTooLarge -"),
+        SpineFault::FitTooLarge(Some(unit)) => push_numbered(out, "FitTooLarge", row_of(unit)),
+        SpineFault::NoMemory => Ok(()),
+    }
+}
+
+// Appends the name of a fault of facilities, and the row that it carries.
+fn push_facilities(fault: FacFault, out: &mut Vec<u8>) -> Result<(), NoMemory>
+    ensures ok { OnOk result (out.new.items ≡ out.old.items ++ spec.facilities_text fault) }
+    ensures err { OnErr result (out.new.items ≡ out.old.items) }
+{
+    match fault {
+        FacFault::BadRow(row) => push_numbered(out, "BadRow", row),
+        FacFault::BadHeader(row) => push_numbered(out, "BadHeader", row),
+        FacFault::UnknownBlock(row) => push_numbered(out, "UnknownBlock", row),
+        FacFault::UnknownKind(row) => push_numbered(out, "UnknownKind", row),
+        FacFault::Household(row) => push_numbered(out, "Household", row),
+        FacFault::BadCount(row) => push_numbered(out, "BadCount", row),
+        FacFault::Repeated(row) => push_numbered(out, "Repeated", row),
+        FacFault::NoMemory => Ok(()),
+    }
+}
+
+// Appends the name of a fault of totals, and the row or the state's code that it carries.
+fn push_totals(spine: &Spine, fault: TotFault, out: &mut Vec<u8>) -> Result<(), NoMemory>
+    requires { spec.NamesUnits spine.now (Named.Totals fault) }
+    ensures ok { OnOk result (out.new.items ≡ out.old.items ++ spec.totals_text spine.now fault) }
+    ensures err { OnErr result (out.new.items ≡ out.old.items) }
+{
+    match fault {
+        TotFault::BadRow(row) => push_numbered(out, "BadRow", row),
+        TotFault::BadHeader(row) => push_numbered(out, "BadHeader", row),
+        TotFault::UnknownState(row) => push_numbered(out, "UnknownState", row),
+        TotFault::Repeated(row) => push_numbered(out, "Repeated", row),
+        TotFault::Missing(state) => push_coded(out, "Missing", spine.code(state)),
+        TotFault::BadCount(row) => push_numbered(out, "BadCount", row),
+        TotFault::TooManyPersons => push_name(out, "TooManyPersons"),
+        TotFault::NoMemory => Ok(()),
+    }
+}
+
+/// Appends the name of a fault and, after a space, the row that it carries. Want of memory, which is no fault of a file,
+/// has no text. After `NoMemory` the bytes are as they were.
+pub(crate) fn push_plain(fault: &Plain, out: &mut Vec<u8>) -> Result<(), NoMemory>
+    ensures ok { OnOk result (out.new.items ≡ out.old.items ++ spec.plain_text fault.now) }
+    ensures err { OnErr result (out.new.items ≡ out.old.items) }
+{
+    match fault {
+        Plain::TooLong => push_name(out, "TooLong"),
+        Plain::Schema(fault) => push_name(out, schema_text(*fault)),
+        Plain::Spine(fault) => push_spine(*fault, out),
+        Plain::Facilities(fault) => push_facilities(*fault, out),
+    }
+}
+
+/// Appends the name of a fault and, each after a space, what it carries: a row, or a state's code and the numbers that
+/// belong to it. The units that it names are the spine's. Want of memory has no text. After `NoMemory` the bytes are as
+/// they were.
+pub(crate) fn push_named(spine: &Spine, fault: &Named, out: &mut Vec<u8>) -> Result<(), NoMemory>
+    requires { spec.NamesUnits spine.now fault.now }
+    ensures ok { OnOk result (out.new.items ≡ out.old.items ++ spec.named_text spine.now fault.now) }
+    ensures err { OnErr result (out.new.items ≡ out.old.items) }
+{
+    match fault {
+        Named::Totals(fault) => push_totals(spine, *fault, out),
+        Named::Join(
+            JoinFault::Short {
+                state,
+                total,
+                needed,
+            },
+        ) => push_short(out, spine.code(*state), *total, *needed),
+        Named::Join(JoinFault::NoMemory) => Ok(()),
+    }
+}
