@@ -16,3 +16,4 @@ pub mod Thin
 pub mod Whole
 pub mod Kept
 pub mod Columns
+pub mod Classes
