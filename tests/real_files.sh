@@ -40,15 +40,24 @@ fit_to_full_device() {
 printf '%3000s' x >"$folder/tables.csv"
 try "a release, over a longer file" 0 "ok fit fits=11" fit "$data/schema.toml" "$data/spine.csv" "$data/facilities.csv" "$data/totals.csv" "$folder/tables.csv"
 try "its tables" 0 "unit,cell,count
-US,0,465
-North,0,120
-South,0,345
-N1,0,120
-N1.1,0,120
-N1.1.a,0,120
-S1,0,345
-S1.1,0,345
-S1.1.a,0,345" cat "$folder/tables.csv"
+US,0,460
+US,2,5
+North,0,117
+North,2,3
+South,0,343
+South,2,2
+N1,0,117
+N1,2,3
+N1.1,0,117
+N1.1,2,3
+N1.1.a,0,117
+N1.1.b,2,3
+S1,0,343
+S2,2,2
+S1.1,0,343
+S1.1.a,0,343
+S2.1,2,2
+S2.1.a,2,2" cat "$folder/tables.csv"
 try "no words" 2 words "$tda"
 try "a missing file" 4 "read schema" fit "$folder/none" "$data/spine.csv" "$data/facilities.csv" "$data/totals.csv" "$folder/new.csv"
 try "a missing second file" 4 "read spine" fit "$data/schema.toml" "$folder/none" "$data/facilities.csv" "$data/totals.csv" "$folder/new.csv"

@@ -1,5 +1,5 @@
 pub mod Cuts
-pub mod Links
+pub mod Linked
 pub mod Sound
 pub mod Kept
 pub mod Sums

@@ -1,9 +1,8 @@
--- What a net keeps of its arcs and nodes.
-use Rattle.std.specs.Prelude.{ℕ, ◌≤◌, List, [], ◌∷◌, length, Option, None, cond, slice_index_or}
+-- What a net keeps of its arcs with their terms.
+use Rattle.std.specs.Prelude.{ℕ, ◌≤◌, List, [], ◌∷◌, length, slice_index_or}
 use Rattle.std.specs.List.{slice_range}
 use Rattle.tda_flow.specs.declared.net.Arc.{Arc}
 use Rattle.tda_flow.specs.declared.net.Term.{Term}
-use Rattle.tda_flow.specs.declared.net.Turn.{Turn}
 use Rattle.tda_flow.specs.declared.lanes.Lane.{Lane}
 use Rattle.tda_flow.specs.Network.{no_arc}
 
@@ -26,15 +25,7 @@ AreInOrder [] n = Unit {0}
 AreInOrder (lane ∷ lanes) n = (lane.first_term ≤ start_of lanes n) × (start_of lanes n ≤ n) × AreInOrder lanes n
 
 abbrev pub no_lane : Lane
-no_lane = record { arc = no_arc; first_term = 0; next_forth = None; next_back = None }
+no_lane = record { arc = no_arc; first_term = 0 }
 
 abbrev pub lane_at : List Lane → ℕ → Lane
 lane_at lanes i = slice_index_or lanes i no_lane
-
--- what a lane names as the next turn after one over its arc
-abbrev pub link_at : List Lane → Turn → Option Turn
-link_at lanes t = cond t.back (lane_at lanes t.arc).next_back (lane_at lanes t.arc).next_forth
-
--- the first turn at node v, None for a node past the list
-abbrev pub head_at : List (Option Turn) → ℕ → Option Turn
-head_at heads v = slice_index_or heads v None

@@ -2,6 +2,7 @@ pub mod Sum
 pub mod Network
 pub mod Turns
 pub mod Lanes
+pub mod Links
 pub mod NetView
 pub mod Flow
 pub mod Certificate

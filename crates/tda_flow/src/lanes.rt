@@ -1,18 +1,14 @@
-// What a net keeps of an arc, and the first turns of the nodes.
-ghost use Rattle.std.specs.Prelude.{◌≡◌, ℕ, ◌+◌, ◌<◌, ◌≤◌, ◌^◌, length, drop, Some, OnOk, slice_set, vec_len};
-ghost use Rattle.tda_flow.specs.Lanes.{head_at, start_of, lane_at, AreInOrder};
+// What a net keeps of an arc with its terms.
+ghost use Rattle.std.specs.Prelude.{◌≡◌, ◌+◌, ◌<◌, ◌≤◌, ◌^◌, length, drop};
+ghost use Rattle.tda_flow.specs.Lanes.{start_of, lane_at, AreInOrder};
 
-use crate::net::{Arc, Turn};
-use tda_io::NoMemory;
+use crate::net::Arc;
 
-// An arc, where its terms begin, and for the turn over it each way the turn pushed before that
-// begins at the same node.
+// An arc, and where its terms begin.
 #[derive(Clone, Copy)]
 pub(crate) struct Lane {
     pub(crate) arc: Arc,
     pub(crate) first_term: usize,
-    pub(crate) next_forth: Option<Turn>,
-    pub(crate) next_back: Option<Turn>,
 }
 
 // Where the lanes after lane `i` begin in a list of `count` terms.
@@ -37,39 +33,4 @@ pub(crate) fn terms_of(lanes: &[Lane], i: usize, count: usize) -> (usize, usize)
     ensures within { result.1 ≤ count }
 {
     (lanes[i].first_term, end_of(lanes, i, count))
-}
-
-// Makes room for node `node` among the heads. No head changes.
-pub(crate) fn grow(heads: &mut Vec<Option<Turn>>, node: u32) -> Result<(), NoMemory>
-    ensures same { (v : ℕ) → head_at heads.new.items v ≡ head_at heads.old.items v }
-    ensures room { OnOk result (node < vec_len heads.new) }
-    ensures more { vec_len heads.old ≤ vec_len heads.new }
-{
-    let index = node as usize;
-    if heads.len() <= index {
-        heads.resize(index + 1, None)?;
-    }
-    Ok(())
-}
-
-// Makes a turn the first one at a node, and gives the one that was.
-pub(crate) fn put_first(heads: &mut Vec<Option<Turn>>, node: u32, turn: Turn) -> Option<Turn>
-    requires { node < vec_len heads.old }
-    ensures value { result ≡ head_at heads.old.items node }
-    ensures set { heads.new.items ≡ slice_set heads.old.items node (Some turn) }
-    ensures len { vec_len heads.new ≡ vec_len heads.old }
-{
-    let first = heads[node as usize];
-    heads[node as usize] = Some(turn);
-    first
-}
-
-// The first turn at a node.
-pub(crate) fn first_at(heads: &[Option<Turn>], node: u32) -> Option<Turn>
-    ensures { result ≡ head_at heads.now node }
-{
-    match heads.get(node as usize) {
-        Some(first) => *first,
-        None => None,
-    }
 }

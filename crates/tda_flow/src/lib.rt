@@ -7,6 +7,7 @@
 mod balance;
 mod judge;
 mod lanes;
+mod links;
 mod net;
 mod search;
 mod solver;

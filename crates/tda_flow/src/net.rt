@@ -1,9 +1,11 @@
 // Nets of nodes and arcs, with the terms of cost of each arc.
 ghost use Rattle.std.specs.Prelude.{◌≡◌, ◌-◌, ◌*◌, ◌<◌, ◌≤◌, ◌^◌, [], length, OnOk, OnErr};
 ghost use Rattle.tda_flow.specs.Network.{arc_count, arc_at, terms_at, with_arc, with_term, IsArcOf, IsNetTerm, AreNetTerms, IsSound};
+ghost use Rattle.tda_flow.specs.Links.{AreEndsOf};
 ghost use Rattle.tda_flow.specs.Turns.{turn_from, turn_number, IsLastBelow};
 
-use crate::lanes::{Lane, first_at, grow, put_first, terms_of};
+use crate::lanes::{Lane, terms_of};
+use crate::links::{Link, Links, first_at, grow, put_first};
 use std::alloc::Global;
 use std::marker::Model;
 use tda_io::NoMemory;
@@ -35,13 +37,14 @@ pub struct Turn {
 ///
 /// All terms stand in one list, arc by arc. The turns that begin at a node are linked, the last
 /// pushed first, so that a search passes each turn once and takes no memory: `heads` has the first
-/// one of each node up to the greatest that an arc names, and the lanes have the next ones.
+/// one of each node up to the greatest that an arc names, and the links of the arcs have the next ones.
 #[derive(Drop)]
 pub struct Net {
     nodes: u32,
     terms: Vec<Term>,
     lanes: Vec<Lane>,
-    heads: Vec<Option<Turn>>,
+    links: Vec<Links>,
+    heads: Vec<Link>,
 }
 
 impl Model for Net {
@@ -67,6 +70,7 @@ impl Net {
             nodes,
             terms: Vec::new(alloc),
             lanes: Vec::new(alloc),
+            links: Vec::new(alloc),
             heads: Vec::new(alloc),
         }
     }
@@ -119,12 +123,21 @@ impl Net {
         requires { turn.arc < arc_count self.now }
         ensures { IsLastBelow self.now (turn_from self.now turn) (turn_number turn) result }
     {
-        let lane = &self.lanes[turn.arc];
+        let links = &self.links[turn.arc];
         if turn.back {
-            lane.next_back
+            links.next_back.turn()
         } else {
-            lane.next_forth
+            links.next_forth.turn()
         }
+    }
+
+    // The links of arc `i`, which is in range.
+    pub(crate) fn links(&self, i: usize) -> &Links
+        requires { i < arc_count self.now }
+        ensures ends { AreEndsOf (arc_at self.now i) result.now }
+        ensures sound { IsArcOf self.now.nodes (arc_at self.now i) }
+    {
+        &self.links[i]
     }
 
     /// Adds an arc without terms, where there are fewer than 2^20 arcs. Its ends are nodes of the net,
@@ -138,22 +151,20 @@ impl Net {
         grow(&mut self.heads, arc.from)?;
         grow(&mut self.heads, arc.to)?;
         self.lanes.reserve(1)?;
-        let index = self.lanes.len();
-        let forth = Turn {
-            arc: index,
-            back: false,
+        self.links.reserve(1)?;
+        let index = self.lanes.len() as u32;
+        let next_forth = put_first(&mut self.heads, arc.from, Link::Forth(index));
+        let next_back = put_first(&mut self.heads, arc.to, Link::Back(index));
+        let links = Links {
+            from: arc.from,
+            to: arc.to,
+            next_forth,
+            next_back,
         };
-        let back = Turn {
-            arc: index,
-            back: true,
-        };
-        let next_forth = put_first(&mut self.heads, arc.from, forth);
-        let next_back = put_first(&mut self.heads, arc.to, back);
+        self.links.push(links).unwrap();
         let lane = Lane {
             arc,
             first_term: self.terms.len(),
-            next_forth,
-            next_back,
         };
         self.lanes.push(lane).unwrap();
         Ok(())

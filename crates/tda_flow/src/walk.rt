@@ -15,8 +15,8 @@ impl Turn {
         ensures node { result < net.now.nodes }
     {
         let _nodes = net.nodes();
-        let arc = net.arc(self.arc);
-        if self.back { arc.to } else { arc.from }
+        let links = net.links(self.arc);
+        if self.back { links.to } else { links.from }
     }
 
     /// The node where the turn ends.
@@ -26,8 +26,8 @@ impl Turn {
         ensures node { result < net.now.nodes }
     {
         let _nodes = net.nodes();
-        let arc = net.arc(self.arc);
-        if self.back { arc.from } else { arc.to }
+        let links = net.links(self.arc);
+        if self.back { links.from } else { links.to }
     }
 }
 

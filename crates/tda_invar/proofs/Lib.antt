@@ -12,9 +12,7 @@ pub mod RangeLemmas
 pub mod Needs
 pub mod Raising
 pub mod Existence
-pub mod PlainNames
 pub mod Appends
-pub mod PlainRows
 pub mod WrittenTotals
 pub mod TotalsLength
 mod Worked

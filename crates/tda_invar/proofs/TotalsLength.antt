@@ -1,6 +1,6 @@
 -- The file of totals that is written is short enough to be read.
 use Rattle.std.proofs.Common.{◌≡◌, ℕ, zero, suc, ◌+◌, ◌*◌, ◌<◌, ◌≤◌, ◌^◌, List, [], ◌∷◌, ◌++◌, length, length-append, refl, true, arith}
-use Rattle.std.proofs.lemmas.Bool.{leb-true}
+use Rattle.std.proofs.lemmas.Bool.{and_parts, leb-true}
 use Rattle.std.proofs.lemmas.Fmt.{length-decimal-le}
 use Rattle.std.proofs.lemmas.List.Elements.{recursion_from_All}
 use Rattle.std.specs.Fmt.{decimal}
@@ -14,7 +14,6 @@ use Rattle.tda_spine.specs.Sound.{IsSound}
 use Rattle.tda_spine.proofs.Numbers.{length-kept-le}
 use Rattle.tda_invar.specs.Totals.{header, total_of, total_row, totals_text, AreTotalsOf}
 use Rattle.tda_invar.proofs.Existence.{total_small}
-use Rattle.tda_invar.proofs.PlainNames.{both}
 use Rattle.tda_invar.proofs.StatePlaces.{IsState, states_are}
 
 -- texts of at most so many bytes each, one after another
@@ -29,7 +28,7 @@ joined_length f most (x ∷ xs) (e, h) =
     next a b n c small le is = omega arith
 
 name_length : (most : ℕ) (name : List ℕ) → name_test most name ≡ true → length name ≤ most
-name_length most name h = leb-true (length name) most (both _ _ (both _ _ h).0).1
+name_length most name h = leb-true (length name) most (and_parts _ _ (and_parts _ _ h).0).1
 
 -- two fields, the comma between them and the line feed
 pair_length : (x y : List ℕ) → length (row_text (x ∷ y ∷ [])) ≡ length x + length y + 2

@@ -27,8 +27,8 @@ use Rattle.tda_invar.proofs.UnitLemmas.{own_code, other_code}
 use Rattle.tda_invar.proofs.StatePlaces.{IsState, states_are, total_at, totals_listed}
 use Rattle.tda_invar.proofs.TotalRows.{no_fault, judged_ok}
 use Rattle.tda_invar.proofs.Existence.{total_small}
-use Rattle.tda_invar.proofs.PlainNames.{plain_name}
-use Rattle.tda_invar.proofs.PlainRows.{IsPlainRow, rows_back, plain_decimal}
+use Rattle.tda_io.proofs.PlainNames.{plain_name}
+use Rattle.tda_io.proofs.PlainRows.{IsPlainRow, rows_back, plain_decimal}
 
 find_none : {X : Type 0} (p : X → Bool) (xs : List X) → Each (λ x. p x ≡ false) xs → find p xs ≡ None
 find_none p [] h = refl

@@ -1,14 +1,13 @@
 -- The columns of cells' values.
-use Rattle.std.proofs.Common.{◌≡◌, ◌==◌, ◌&&◌, Bool, false, ℕ, zero, suc, ◌+◌, ◌*◌, ◌/◌, ◌%◌, ◌<◌, ◌≤◌, true, List, [], ◌∷◌, ◌++◌, length, get_or, drop, map, All, refl, sym, ap, ◌∙◌, arith}
+use Rattle.std.proofs.Common.{◌≡◌, ◌==◌, ◌&&◌, Bool, false, ℕ, zero, suc, ◌+◌, ◌*◌, ◌/◌, ◌%◌, ◌<◌, ◌≤◌, List, [], ◌∷◌, length, get_or, drop, map, All, refl, sym, ap, ◌∙◌, arith}
 use Rattle.std.specs.List.{list_any, range_with_len}
 use Rattle.std.proofs.lemmas.List.Elements.{All-from_get_or}
 use Rattle.std.proofs.lemmas.Option.{slice_get-get_or}
-use Rattle.std.proofs.lemmas.List.{length-drop, map_push}
 use Rattle.std.proofs.lemmas.List.FromFn.{length-map-range_with_len, get_or-map-range_with_len}
 use Rattle.std.proofs.lemmas.Nat.{mul-le, div-mul-add}
 use Rattle.tda_model.specs.Schema.{Attribute, Schema}
 use Rattle.tda_model.specs.Cells.{cells_in, values_in, cell_count, value_at, all_cells}
-use Rattle.tda_sets.proofs.Ranges.{map_range_agree, map_range_push}
+use Rattle.tda_sets.proofs.Ranges.{map_range_agree}
 use Rattle.tda_schema.specs.Columns.{column_of, columns_of}
 use Rattle.tda_schema.specs.Readers.{values_of, IsWithinLimits}
 use Rattle.tda_schema.proofs.CellsIn.{IsNext, some_cell, more_cells}

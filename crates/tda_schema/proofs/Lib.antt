@@ -18,7 +18,14 @@ pub mod Weights
 pub mod Spent
 pub mod WholeLemmas
 pub mod PartTests
-pub mod ThinParts
 pub mod ColumnLemmas
 pub mod Marks
 pub mod Possible
+pub mod DigitLemmas
+pub mod ClassFamilies
+pub mod LevelLemmas
+pub mod Grouped
+pub mod QueryGroups
+pub mod LevelGroups
+pub mod GroupSizes
+pub mod KindMarks

@@ -1,9 +1,9 @@
 -- What the tests of groups and kinds tell.
-use Rattle.std.proofs.Common.{◌≡◌, ◌==◌, ◌<◌, ◌≤◌, ◌+◌, ◌&&◌, ◌||◌, ◌⊎◌, ℕ, Bool, true, false, not, cond, List, [], ◌∷◌, length, get_or, filter, All, Contains, nat_le, nat_lt, refl, sym, ap, ◌∙◌, arith, zero-add}
+use Rattle.std.proofs.Common.{◌≡◌, ◌==◌, ◌<◌, ◌&&◌, ◌||◌, ℕ, Bool, true, false, not, cond, List, [], ◌∷◌, length, get_or, filter, All, Contains, nat_le, refl, sym, ap, ◌∙◌, arith, zero-add}
 use Rattle.std.specs.Bool.{Decides}
-use Rattle.std.specs.List.{list_all, list_any, range_with_len, HoldsAt}
-use Rattle.std.proofs.lemmas.Bool.{and_parts, and_from, ltb-true, leb-true, le-leb, eqb-true, eq-eqb}
-use Rattle.std.proofs.lemmas.Bool.Decides.{Decides-and, Decides-or, Decides-not, Decides-eqb, Decides-by_and, Decides-by_or, Decides-like}
+use Rattle.std.specs.List.{list_all, list_any, range_with_len}
+use Rattle.std.proofs.lemmas.Bool.{and_parts, and_from, ltb-true, leb-true, le-leb, eq-eqb}
+use Rattle.std.proofs.lemmas.Bool.Decides.{Decides-or, Decides-not, Decides-eqb, Decides-by_and, Decides-by_or}
 use Rattle.std.proofs.lemmas.List.Elements.{Decides-contains, filter_passes}
 use Rattle.std.proofs.lemmas.List.Folds.{list_any_at}
 use Rattle.std.proofs.lemmas.List.FromFn.{length-range_with_len, get_or-range_with_len}
@@ -29,7 +29,7 @@ are_nested-Decides xs ys =
     (all-Decides (holds ys) (Contains ys) (holds-Decides ys) xs)
     (all-Decides (holds xs) (Contains xs) (holds-Decides xs) ys))
 
-level_is_nested-Decides : (s : Schema) (l : Level) → Decides (level_is_nested s l) (LevelIsNested s l)
+pub level_is_nested-Decides : (s : Schema) (l : Level) → Decides (level_is_nested s l) (LevelIsNested s l)
 level_is_nested-Decides s l =
     all-Decides (λ xs. list_all (are_nested xs) (group_sets s l)) (λ xs. All (AreNested xs) (group_sets s l))
     (λ xs. all-Decides (are_nested xs) (AreNested xs) (are_nested-Decides xs) (group_sets s l)) (group_sets s l)
@@ -37,7 +37,7 @@ level_is_nested-Decides s l =
 pub is_nested-Decides : (s : Schema) → Decides (is_nested s) (All (LevelIsNested s) s.levels)
 is_nested-Decides s = all-Decides (level_is_nested s) (LevelIsNested s) (level_is_nested-Decides s) s.levels
 
-any_filter : (p q : ℕ → Bool) (xs : List ℕ) → list_any p (filter q xs) ≡ list_any (λ x. q x && p x) xs
+pub any_filter : (p q : ℕ → Bool) (xs : List ℕ) → list_any p (filter q xs) ≡ list_any (λ x. q x && p x) xs
 any_filter p q [] = refl
 any_filter p q (x ∷ xs) = by (q x) (any_filter p q xs)
   where

@@ -1,7 +1,6 @@
 -- What holds of a schema that is whole.
-use Rattle.std.proofs.Common.{◌≡◌, ℕ, zero, suc, ◌<◌, ◌≤◌, ◌*◌, ◌/◌, ◌%◌, Bool, true, List, [], ◌∷◌, length, map, get_or, Option, Some, None, cond, refl, sym, ap, subst, ◌∙◌, arith}
-use Rattle.std.specs.Int.{◌∣◌}
-use Rattle.std.specs.List.{All, filter, range_with_len, sum_by}
+use Rattle.std.proofs.Common.{◌≡◌, ℕ, suc, ◌<◌, ◌≤◌, ◌*◌, ◌/◌, Bool, true, List, [], ◌∷◌, length, map, get_or, Option, Some, None, cond, sym, ap, subst, ◌∙◌, arith}
+use Rattle.std.specs.List.{All, filter, sum_by}
 use Rattle.std.proofs.Math.Nat.{mul-div_cancel_left, div-lt_iff_lt-mul, mod-eq_of_lt}
 use Rattle.std.proofs.lemmas.Bool.{and_parts, leb-true, ltb-true}
 use Rattle.std.proofs.lemmas.List.FromFn.{get_or-map-range_with_len, length-map-range_with_len, length-range_with_len}
@@ -12,11 +11,11 @@ use Rattle.tda_frac.specs.Fraction as frac
 use Rattle.tda_model.specs.Schema.{Fraction, Attribute, Recode, Listed, Query, Level, Schema}
 use Rattle.tda_model.specs.Cells.{cells_in, cell_count, is_possible, is_listed, kind_of, all_cells, possible_cells}
 use Rattle.tda_model.specs.Deviation.{weight_of}
-use Rattle.tda_model.specs.Groups.{is_class, classes_of, scope_cells, kind_count, LevelIsNested}
+use Rattle.tda_model.specs.Groups.{is_class, classes_of, scope_cells, kind_count}
 use Rattle.tda_schema.specs.Kept.{IsQueryKept}
 use Rattle.tda_schema.specs.Parts.{Parts, class_at}
-use Rattle.tda_schema.specs.Shares.{IsLeastCommon, queries_of, common_of, spent_of, has_denominators, denominator_limit}
-use Rattle.tda_schema.specs.Stated.{level_at, queries_at, query_at, class_of}
+use Rattle.tda_schema.specs.Shares.{IsLeastCommon, queries_of, common_of, spent_of, denominator_limit}
+use Rattle.tda_schema.specs.Stated.{queries_at, query_at, class_of}
 use Rattle.tda_schema.specs.Whole.{IsWhole}
 use Rattle.tda_schema.proofs.Commons.{least_common}
 use Rattle.tda_schema.proofs.Spent.{have_denominators, some_common, levels_divide, spent_parts}

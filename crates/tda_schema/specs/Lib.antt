@@ -12,8 +12,9 @@ pub mod Shares
 pub mod Stating
 pub mod Read
 pub mod Parts
-pub mod Thin
 pub mod Whole
 pub mod Kept
 pub mod Columns
 pub mod Classes
+pub mod Digits
+pub mod Levels

@@ -1,12 +1,12 @@
 -- What bytes are as a schema.
-use Rattle.std.specs.Prelude.{ℕ, not, List, [], map, Option, None, Result, Ok, if◌then◌else◌}
+use Rattle.std.specs.Prelude.{ℕ, not, List, Option, None, Result, Ok, if◌then◌else◌}
 use Rattle.std.specs.Str.{is_utf8}
 use Rattle.toml.specs.Data.{Members}
 use Rattle.toml.specs.Parse.{parse_document}
 use Rattle.tda_io.specs.Due.{◌>>=◌, fault_if}
 use Rattle.tda_model.specs.Schema.{Schema}
 use Rattle.tda_schema.specs.declared.fault.SchemaFault.{SchemaFault}
-use Rattle.tda_schema.specs.declared.fault.SchemaFault.TheVariants.{BadToml, UnknownKey, MissingKey, BadName, Repeated, BadSize, UnknownName, BadShare, Denominator, OverTotal, NotYet}
+use Rattle.tda_schema.specs.declared.fault.SchemaFault.TheVariants.{BadToml, UnknownKey, MissingKey, BadName, Repeated, BadSize, UnknownName, BadShare, Denominator, OverTotal, NotNested, KindWithoutCell}
 use Rattle.tda_schema.specs.declared.keys.KeyTest.TheVariants.{Known, Complete}
 use Rattle.tda_schema.specs.Raw.{RawSchema}
 use Rattle.tda_schema.specs.Keys.{document_passes}
@@ -16,8 +16,7 @@ use Rattle.tda_schema.specs.Sizes.{has_sizes}
 use Rattle.tda_schema.specs.Known.{knows_names}
 use Rattle.tda_schema.specs.Shares.{is_paid, has_denominators, is_within_total}
 use Rattle.tda_schema.specs.Stating.{stated}
-use Rattle.tda_schema.specs.Parts.{Parts, parts_of}
-use Rattle.tda_schema.specs.Thin.{is_thin}
+use Rattle.tda_schema.specs.Parts.{Parts, parts_of, is_nested, has_kinds}
 
 -- the TOML document that the bytes hold
 abbrev pub document_of : List ℕ → Option Members
@@ -40,10 +39,11 @@ looked_up raw = do
   _ ← fault_if (not (is_paid raw)) BadShare
   Ok (stated raw)
 
--- its parts, where it is one that is read yet
+-- its parts, where its groups are nested and its kinds have possible cells
 abbrev pub parted : Schema → Result Parts SchemaFault
 parted s = do
-  _ ← fault_if (not (is_thin s)) NotYet
+  _ ← fault_if (not (is_nested s)) NotNested
+  _ ← fault_if (not (has_kinds s)) KindWithoutCell
   Ok (parts_of s)
 
 -- a schema with its names looked up, where its shares have a common denominator and are within the total, and its parts can be had

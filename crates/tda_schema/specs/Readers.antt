@@ -1,7 +1,7 @@
 -- What the readers of a schema give, and what each schema keeps.
-use Rattle.std.specs.Prelude.{◌≡◌, ℕ, ◌≤◌, true, List, [], ◌∷◌, length, map, All, Some, None, slice_get}
+use Rattle.std.specs.Prelude.{◌≡◌, ℕ, ◌≤◌, true, List, [], length, map, All, Some, None, slice_get}
 use Rattle.std.specs.List.{AllPass}
-use Rattle.tda_model.specs.Schema.{Attribute, Level, Schema}
+use Rattle.tda_model.specs.Schema.{Schema}
 use Rattle.tda_model.specs.Cells.{cell_count}
 use Rattle.tda_schema.specs.Names.{is_name, are_distinct}
 

@@ -4,7 +4,7 @@ use crate::read_schema;
 use std::alloc::{AllocError, Global};
 use std::test::Fail;
 
-const DEMO: &str = r#"
+pub(crate) const DEMO: &str = r#"
 version = 1
 total = "1"
 
@@ -310,7 +310,7 @@ const NAMES: [(&str, &str, &str, Option<SchemaFault>); 20] = [
 // Recodes, zero rows and queries over the attributes `k` with the values `h` and `d`, and `a` with `0`, `1` and `2`.
 // Entries of a query that concern one attribute are told before a map of the wrong length, and that before unknown names;
 // an entry that names a recode concerns what the recode's `of` says, also where that is no attribute.
-const REFERENCES: [(&str, &str, &str, Option<SchemaFault>); 28] = [
+const REFERENCES: [(&str, &str, &str, Option<SchemaFault>); 31] = [
     (
         "{name = 'r', of = 'a', map = ['x', 'y', 'x']}",
         "{a = ['0', '0'], k = ['d']}",
@@ -426,6 +426,27 @@ const REFERENCES: [(&str, &str, &str, Option<SchemaFault>); 28] = [
         "{a = ['1']}",
         "{name = 'p', by = ['k', 'r'], share = '1/2'}, {name = 'q', by = ['k', 's'], share = '1/2'}",
         None,
+    ),
+    // Equal classes, of queries and of a kind, are one group.
+    (
+        "{name = 'r', of = 'k', map = ['x', 'y']}",
+        "",
+        "{name = 'p', by = ['r'], share = '1/2'}, {name = 'q', by = ['k'], share = '1/2'}",
+        None,
+    ),
+    // A key without values matches no cell, and so its row none.
+    (
+        "",
+        "{k = ['h', 'd'], a = []}",
+        "{name = 'q', by = ['a'], share = '1'}",
+        Some(NotNested),
+    ),
+    // Groups that aren't nested are told before a kind without a cell.
+    (
+        "{name = 'r', of = 'a', map = ['x', 'x', 'y']}, {name = 's', of = 'a', map = ['x', 'y', 'y']}",
+        "{k = ['d']}",
+        "{name = 'p', by = ['r'], share = '1/2'}, {name = 'q', by = ['s'], share = '1/2'}",
+        Some(NotNested),
     ),
     // A kind without a cell, by a row for it, by rows for its cells, and by a row that matches each cell.
     ("", "{k = ['d']}", "", Some(KindWithoutCell)),
@@ -544,14 +565,6 @@ const SIZES: [(&[u16], u16, u16, u16, u16, Option<SchemaFault>); 22] = [
     (&[1], 64, 4096, 7, 8, None),
 ];
 
-// Until groups are read, a schema that is refused for nothing else is `NotYet`.
-fn agrees(answer: Option<SchemaFault>, due: Option<SchemaFault>) -> bool {
-    match due {
-        None | Some(NotNested | KindWithoutCell) => answer == due || answer == Some(NotYet),
-        Some(_) => answer == due,
-    }
-}
-
 fn named(
     alloc: Global,
     attributes: &str,
@@ -660,7 +673,7 @@ fn tells_keys_and_types(rt: HostRuntime) {
     for (number, text) in ACCEPTED.iter().enumerate() {
         assert!(rt; text.len() <= 2000);
         let answer = read_schema(rt.alloc(), text.as_bytes());
-        assert!(rt; agrees(answer.err(), None), "document {number}");
+        assert_eq!(rt; answer.err(), None, "document {number}");
     }
 }
 
@@ -670,13 +683,13 @@ fn tells_names(rt: HostRuntime) -> Result<(), Fail> {
         let text = named(rt.alloc(), attributes, recodes, levels)?;
         assert!(rt; text.len() <= 1000);
         let answer = read_schema(rt.alloc(), text.as_bytes()).err();
-        assert!(rt; agrees(answer, *due), "document {number}");
+        assert_eq!(rt; answer, *due, "document {number}");
     }
     for (number, (recodes, zeros, queries, due)) in REFERENCES.iter().enumerate() {
         let text = referring(rt.alloc(), recodes, zeros, queries)?;
         assert!(rt; text.len() <= 1000);
         let answer = read_schema(rt.alloc(), text.as_bytes()).err();
-        assert!(rt; agrees(answer, *due), "document {number}");
+        assert_eq!(rt; answer, *due, "document {number}");
     }
     Ok(())
 }
@@ -687,7 +700,7 @@ fn tells_shares(rt: HostRuntime) -> Result<(), Fail> {
         let text = paying(rt.alloc(), total, shares)?;
         assert!(rt; text.len() <= 1000);
         let answer = read_schema(rt.alloc(), text.as_bytes()).err();
-        assert!(rt; agrees(answer, *due), "document {number}");
+        assert_eq!(rt; answer, *due, "document {number}");
     }
     Ok(())
 }
@@ -698,7 +711,7 @@ fn tells_sizes(rt: HostRuntime) -> Result<(), Fail> {
         let text = sized(rt.alloc(), values, *recodes, *zeros, *levels, *queries)?;
         assert!(rt; text.len() <= 1_000_000);
         let answer = read_schema(rt.alloc(), text.as_bytes()).err();
-        assert!(rt; agrees(answer, *due), "document {number}");
+        assert_eq!(rt; answer, *due, "document {number}");
     }
     Ok(())
 }

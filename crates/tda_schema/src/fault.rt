@@ -6,16 +6,17 @@ use std::alloc::{AllocError, AllocFailed};
 use tda_io::NoMemory as OutOfMemory;
 use thiserror::Error;
 
-/// Why a text is no schema. Of the faults that hold, the first in this order is the text's.
+/// Why a text is no schema. Of the faults that hold, the first in this order is the text's; want of memory may stand in
+/// place of any answer.
 #[derive(Clone, Copy, Debug, PartialEq, Eq, Error)]
 pub enum SchemaFault {
     /// The text isn't a TOML document.
     #[error("no TOML document")]
     BadToml,
-    /// A table has a key that isn't listed.
+    /// The top table, or one of an attribute, recode, level or query, has a key that isn't listed.
     #[error("a key that isn't listed")]
     UnknownKey,
-    /// A table lacks a required key.
+    /// Such a table lacks a required key.
     #[error("a required key is missing")]
     MissingKey,
     /// A value isn't of its type, or the version isn't the integer 1.
@@ -48,9 +49,6 @@ pub enum SchemaFault {
     /// A value of the first attribute has no possible cell.
     #[error("a kind has no possible cell")]
     KindWithoutCell,
-    /// The text is no schema, or one that isn't read yet.
-    #[error("no schema that is read yet")]
-    NotYet,
     /// There was not enough memory.
     #[error("out of memory")]
     NoMemory,

@@ -101,9 +101,8 @@ fn whole(alloc: Global, stated: Stated) -> Result<Schema, SchemaFault>
 /// `attribute` (each a `name` and `values`), `recode` (`name`, `of`, `map`), `zero` (attributes with some of their values)
 /// and `level` (each a `name`, and `query`: `name`, `by`, `share`), of which `recode`, `zero` and `query` may be left out.
 ///
-/// Levels stand from the nation to the block. A text that is no schema has the first of the faults up to `OverTotal` that
-/// holds. So far there is one attribute with one value, no zero row and no query: each other schema has the fault `NotYet`.
-/// `NoMemory` where memory ran out.
+/// Levels stand from the nation to the block, and the first attribute is the kind of quarters. A text that is no schema has
+/// the first of the faults that holds, in the order of `SchemaFault`. `NoMemory` where memory ran out.
 pub fn read_schema(alloc: Global, bytes: &[u8]) -> Result<Schema, SchemaFault>
     requires { length bytes.now ≤ 2 ^ 28 }
     ensures { Gives SchemaFault.NoMemory (λ s. s) result (spec.read bytes.now) }

@@ -249,8 +249,8 @@ impl Schema {
         shares::weight(self.share(level, query), self.common)
     }
 
-    /// The least common multiple of the denominators of all shares, 1 without queries: 1 to 2^20. A share is so many of
-    /// these parts.
+    /// The least common multiple of the denominators of all shares, 1 without queries: 1 to 2^20. Each
+    /// share is a whole number of parts of this size.
     pub fn common(&self) -> u64
         ensures value { result ≡ common_of self.now }
         ensures least { IsLeastCommon (queries_of self.now) result }

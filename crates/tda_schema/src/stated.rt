@@ -20,8 +20,8 @@ impl Model for Attribute {
     ghost view = { λ a. record { name = string_bytes a.name; values = map string_bytes a.values.items } };
 }
 
-// Where a text stands among texts.
-fn position_in(texts: &[String], bytes: &[u8]) -> Option<usize>
+/// Where a text stands among texts.
+pub(crate) fn position_in(texts: &[String], bytes: &[u8]) -> Option<usize>
     ensures { result ≡ position (λ t. bytes_eq (string_bytes t) bytes.now) texts.now }
 {
     texts.iter().position(|text| text.as_bytes() == bytes)

@@ -1,5 +1,11 @@
-// Each reader once.
-use crate::read_schema;
+// Each reader once, and the groups of schemas with several cells.
+ghost use Rattle.std.specs.Prelude.{◌≡◌, ◌<◌, true, length};
+ghost use Rattle.tda_schema.specs.Stated.{queries_at};
+
+use crate::SchemaFault::NotNested;
+use crate::document_tests::DEMO;
+use crate::{Schema, read_schema};
+use std::alloc::{AllocError, Global};
 use std::test::Fail;
 
 const ONE_CELL: &str = r#"
@@ -43,5 +49,154 @@ fn tells_what_a_schema_says(rt: HostRuntime) -> Result<(), Fail> {
         assert_eq!(rt; schema.places(level), 0);
     }
     assert_eq!(rt; schema.find_level(b"county"), None);
+    Ok(())
+}
+
+// How many queries, groups and places a level has.
+fn sizes(schema: &Schema, level: usize) -> Option<(usize, u32, u64)> {
+    if level >= schema.levels() {
+        return None;
+    }
+    Some((
+        schema.queries(level),
+        schema.groups(level),
+        schema.places(level),
+    ))
+}
+
+fn is_query(schema: &Schema, level: usize, query: usize) -> bool
+    ensures level { result ≡ true → level < length schema.now.levels }
+    ensures query { result ≡ true → query < length (queries_at schema.now level) }
+{
+    level < schema.levels() && query < schema.queries(level)
+}
+
+// Whether a query has this name.
+fn is_named(schema: &Schema, level: usize, query: usize, name: &str) -> bool {
+    is_query(schema, level, query) && schema.query_name(level, query) == name
+}
+
+// The weight of a query, and the numerator of its share.
+fn paid(schema: &Schema, level: usize, query: usize) -> Option<(u64, u64)> {
+    if !is_query(schema, level, query) {
+        return None;
+    }
+    let share = schema.share(level, query);
+    Some((schema.weight(level, query), share.num()))
+}
+
+// Whether a query has these classes.
+fn has_classes(schema: &Schema, level: usize, query: usize, classes: &[u32]) -> bool {
+    is_query(schema, level, query) && schema.classes(level, query) == classes
+}
+
+// The class of a possible cell.
+fn class(schema: &Schema, level: usize, query: usize, cell: u32) -> Option<u32> {
+    if !is_query(schema, level, query) || cell >= schema.cells() || !schema.possible(cell) {
+        return None;
+    }
+    Some(schema.class_of(level, query, cell))
+}
+
+// Of each level of the demo its queries, groups and places, and its second query with its weight.
+const LEVELS: [(usize, u32, u64, &str, u64); 5] = [
+    (2, 14, 13, "detail", 1),
+    (2, 14, 13, "detail", 1),
+    (2, 8, 6, "kindage", 1),
+    (2, 14, 11, "detail", 2),
+    (2, 14, 11, "detail", 4),
+];
+
+// Of each possible cell of the demo the first cell of its kind and age.
+const CELLS: [Option<u32>; 13] = [
+    Some(0),
+    Some(1),
+    Some(0),
+    Some(1),
+    Some(4),
+    Some(5),
+    Some(4),
+    Some(5),
+    None,
+    Some(9),
+    None,
+    Some(9),
+    None,
+];
+
+#[test]
+fn tells_the_groups_of_the_demo(rt: HostRuntime) -> Result<(), Fail> {
+    let schema = read_schema(rt.alloc(), DEMO.as_bytes())?;
+    assert_eq!(rt;
+        (schema.cells(), schema.kinds(), schema.common()),
+        (12, 3, 16)
+    );
+    assert_eq!(rt; (schema.total().num(), schema.total().den()), (1, 1));
+    assert_eq!(rt; (schema.spent().num(), schema.spent().den()), (1, 1));
+    for (level, (queries, groups, places, name, weight)) in LEVELS.iter().enumerate() {
+        assert_eq!(rt; sizes(&schema, level), Some((*queries, *groups, *places)));
+        assert!(rt; is_named(&schema, level, 1, *name));
+        assert_eq!(rt; paid(&schema, level, 1), Some((*weight, 1)));
+    }
+    assert!(rt; has_classes(&schema, 2, 0, &[0]));
+    assert!(rt; has_classes(&schema, 2, 1, &[0, 1, 4, 5, 9]));
+    for (cell, first) in (0..13).zip(CELLS) {
+        assert_eq!(rt; class(&schema, 2, 1, cell), first);
+    }
+    Ok(())
+}
+
+// The demo with a further query of the county by sex alone, and room for its share.
+fn by_sex(alloc: Global) -> Result<String, AllocError> {
+    let (head, rest) = DEMO.split_once("\"1\"").unwrap_or((DEMO, ""));
+    let (middle, tail) = rest
+        .split_once("{ name = \"kindage\"")
+        .unwrap_or((rest, ""));
+    format!(in alloc;
+        "{head}\"2\"{middle}{{ name = \"sex\", by = [\"sex\"], share = \"1/16\" }}, {{ name = \"kindage\"{tail}"
+    )
+}
+
+#[test]
+fn refuses_classes_across_kinds(rt: HostRuntime) -> Result<(), Fail> {
+    let text = by_sex(rt.alloc())?;
+    assert!(rt; text.len() <= 4000);
+    assert_eq!(rt;
+        read_schema(rt.alloc(), text.as_bytes()).err(),
+        Some(NotNested)
+    );
+    Ok(())
+}
+
+// Two queries of a recode whose labels repeat, with equal classes.
+const RECODED: &str = r#"
+version = 1
+total = "1/2"
+attribute = [{ name = "k", values = ["h", "d"] }, { name = "a", values = ["0", "1", "2"] }]
+recode = [{ name = "r", of = "a", map = ["x", "y", "x"] }]
+level = [
+    { name = "n" },
+    { name = "b", query = [{ name = "one", by = ["r", "k"], share = "1/3" }, { name = "two", by = ["k", "r"], share = "1/6" }] },
+]
+"#;
+
+#[test]
+fn tells_the_classes_of_a_recode(rt: HostRuntime) -> Result<(), Fail> {
+    let schema = read_schema(rt.alloc(), RECODED.as_bytes())?;
+    assert_eq!(rt;
+        (schema.common(), schema.spent().num(), schema.spent().den()),
+        (6, 1, 2)
+    );
+    assert_eq!(rt; sizes(&schema, 0), Some((0, 3, 0)));
+    assert_eq!(rt; sizes(&schema, 1), Some((2, 7, 8)));
+    assert!(rt; is_named(&schema, 1, 0, "one") && is_named(&schema, 1, 1, "two"));
+    assert_eq!(rt; paid(&schema, 1, 0), Some((2, 1)));
+    assert_eq!(rt; paid(&schema, 1, 1), Some((1, 1)));
+    assert!(rt; has_classes(&schema, 1, 0, &[0, 1, 3, 4]));
+    assert!(rt; has_classes(&schema, 1, 1, &[0, 1, 3, 4]));
+    for (cell, first) in (0..6).zip([0, 1, 0, 3, 4, 3]) {
+        assert_eq!(rt; class(&schema, 1, 0, cell), Some(first));
+        assert_eq!(rt; class(&schema, 1, 1, cell), Some(first));
+    }
     Ok(())
 }

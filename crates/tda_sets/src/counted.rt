@@ -101,7 +101,8 @@ fn count_fresh(alloc: Global, family: &Family, earlier: &[&Family]) -> Result<us
     Ok(count_marks(&marks))
 }
 
-/// How many different sets the families have, which are of the same numbers. They are at most 65,536.
+/// How many different sets the families have, which are of the same numbers. There are at most 65,536
+/// families.
 pub fn count_sets(alloc: Global, families: &[&Family]) -> Result<usize, NoMemory>
     requires one_length { All (λ f. All (λ g. length f.now ≡ length g.now) families.now) families.now }
     requires few { length families.now ≤ 2 ^ 16 }

@@ -113,7 +113,7 @@ impl Family {
         Family::by_keys(alloc, &keys, self.names.len() * digits.len())
     }
 
-    /// For each number the least member of its set.
+    /// For each number the least member of its set, and none where it is in no set.
     pub fn names(&self) -> &[Option<u32>]
         ensures value { result.now ≡ self.now }
         ensures family { spec.IsFamily self.now }

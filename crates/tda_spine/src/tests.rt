@@ -235,3 +235,83 @@ fn first_large_fit_is_that_of_fit_order(rt: HostRuntime) -> Result<(), Fail> {
     assert_eq!(rt; fault, Some(FitTooLarge(Some(1))));
     Ok(())
 }
+
+// A list of so many values, with those of the same attribute that stand from a place on.
+fn values_from(
+    alloc: Global,
+    attribute: &str,
+    start: u32,
+    count: u32,
+) -> Result<String, AllocError> {
+    let mut text = String::from_str(alloc, "[")?;
+    for value in start..count {
+        text.push_str(&format!(in alloc; "\"{attribute}{value}\",")?)?;
+    }
+    text.push_str("]")?;
+    Ok(text)
+}
+
+// 4,096 cells, of which only the first is possible.
+fn one_of_many_cells(alloc: Global) -> Result<String, AllocError> {
+    let all = values_from(alloc, "v", 0, 64)?;
+    let others = values_from(alloc, "v", 1, 64)?;
+    format!(in alloc;
+        "version = 1\ntotal = \"1\"\nattribute = [{{ name = \"kind\", values = [\"house\"] }}, {{ name = \"a\", values = {all} }}, {{ name = \"b\", values = {all} }}]\nzero = [{{ a = {others} }}, {{ b = {others} }}]\nlevel = [{{ name = \"nation\" }}, {{ name = \"state\" }}, {{ name = \"block\" }}]\n"
+    )
+}
+
+// All cells count, the impossible ones too.
+#[test]
+fn most_counts(rt: HostRuntime) -> Result<(), Fail> {
+    let text = one_of_many_cells(rt.alloc())?;
+    assert!(rt; text.len() < 1_000_000);
+    let schema = read_schema(rt.alloc(), text.as_bytes())?;
+    for (blocks, due) in [(1_022, None), (1_023, Some(TooMany))] {
+        let text = wide(rt.alloc(), 1, blocks)?;
+        assert!(rt; text.len() < 1_000_000);
+        let fault = read_spine(rt.alloc(), &schema, text.as_bytes()).err();
+        assert_eq!(rt; fault, due);
+    }
+    Ok(())
+}
+
+// 64 cells, each of which is a class of each of a block's eight queries: 512 places.
+fn many_places(alloc: Global) -> Result<String, AllocError> {
+    let values = values_from(alloc, "v", 0, 64)?;
+    let mut text = format!(in alloc;
+        "version = 1\ntotal = \"1\"\nattribute = [{{ name = \"kind\", values = [\"house\"] }}, {{ name = \"a\", values = {values} }}]\nlevel = [{{ name = \"nation\" }}, {{ name = \"state\" }}, {{ name = \"block\", query = ["
+    )?;
+    for query in 0..8 {
+        text.push_str(&format!(in alloc;
+            "{{ name = \"q{query}\", by = [\"a\"], share = \"1/8\" }},"
+        )?)?;
+    }
+    text.push_str("] }]\n")?;
+    Ok(text)
+}
+
+// A spine of so many states of 16 blocks each.
+fn even(alloc: Global, states: u32) -> Result<String, AllocError> {
+    let mut text = String::from_str(alloc, "unit,level,parent\nUS,nation,\n")?;
+    for state in 0..states {
+        text.push_str(&format!(in alloc; "S{state},state,US\n")?)?;
+    }
+    for block in 0..16 * u64::from(states) {
+        text.push_str(&format!(in alloc; "B{block},block,S{}\n", block / 16)?)?;
+    }
+    Ok(text)
+}
+
+#[test]
+fn most_places(rt: HostRuntime) -> Result<(), Fail> {
+    let text = many_places(rt.alloc())?;
+    assert!(rt; text.len() < 1_000_000);
+    let schema = read_schema(rt.alloc(), text.as_bytes())?;
+    for (states, due) in [(256, None), (257, Some(TooMany))] {
+        let text = even(rt.alloc(), states)?;
+        assert!(rt; text.len() < 1_000_000);
+        let fault = read_spine(rt.alloc(), &schema, text.as_bytes()).err();
+        assert_eq!(rt; fault, due);
+    }
+    Ok(())
+}

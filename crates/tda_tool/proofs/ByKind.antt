@@ -1,22 +1,18 @@
 -- Tables in which the persons of each kind stand in its first possible cell.
-use Rattle.std.proofs.Common.{◌≡◌, ℕ, zero, suc, ◌+◌, ◌-◌, ◌<◌, ◌≤◌, min, Bool, true, false, cond, eqb, List, refl, sym, ap, ◌∙◌, subst, inl, inr, arith, ne_eqb, eq-eqb, length}
+use Rattle.std.proofs.Common.{◌≡◌, ℕ, zero, suc, ◌+◌, ◌-◌, ◌<◌, ◌≤◌, min, Bool, true, false, cond, eqb, refl, sym, ap, ◌∙◌, subst, inl, inr, arith, ne_eqb, eq-eqb, length}
 use Rattle.std.proofs.lemmas.Bool.{cases_eq, cases_Bool, eqb-true}
 use Rattle.std.specs.List.{sum_by, range_with_len}
 use Rattle.tda_model.specs.Schema.{Schema}
 use Rattle.tda_model.specs.Cells.{cell_count, is_possible, kind_of, all_cells}
 use Rattle.tda_model.specs.Groups.{kind_count}
 use Rattle.tda_model.specs.Spine.{Spine, level_of, is_child, children_of, blocks_of, IsUnit, IsTree}
-use Rattle.tda_model.specs.Tables.{Tables, Published, kind_sum, AddUp, Attainable}
+use Rattle.tda_model.specs.Tables.{Published, kind_sum, AddUp, Attainable}
 use Rattle.tda_model.specs.Bounds.{persons_limit, low, high, InBounds, MostHolds, HasKinds}
 use Rattle.tda_model.proofs.Sums.{sum_same, sum_le, sum_one, sum_zero, sum_swap, each_range, each_any, range_each, filter_each, each_le_sum}
 use Rattle.tda_model.proofs.Attain.{low_is, high_is, kind_sum_is, kind_lt, persons_by_kind}
-use Rattle.tda_tool.specs.Plain.{is_home}
+use Rattle.tda_tool.specs.Plain.{is_home, by_kind}
 use Rattle.tda_tool.proofs.Attaining.{child_named, attained}
 use Rattle.tda_tool.proofs.FirstCells.{home_of}
-
--- so many persons of each unit and kind, each kind's in its first possible cell
-abbrev pub by_kind : Schema → (ℕ → ℕ → ℕ) → Tables
-by_kind s count u j = cond (is_home s j) (count u (kind_of s j)) 0
 
 -- all persons of a unit
 abbrev pub in_all : Schema → (ℕ → ℕ → ℕ) → ℕ → ℕ

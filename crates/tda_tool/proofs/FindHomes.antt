@@ -1,8 +1,8 @@
 -- A walk over the cells that finds the first possible one of each kind.
-use Rattle.std.proofs.Common.{◌≡◌, ℕ, zero, suc, ◌+◌, ◌<◌, ◌≤◌, Bool, true, false, not, ◌&&◌, ◌||◌, eqb, ◌==◌, cond, List, [], ◌∷◌, ◌++◌, length, get_or, set, take, drop, filter, refl, sym, ap, ◌∙◌, subst, inl, inr, arith, ne_eqb, eq-eqb}
+use Rattle.std.proofs.Common.{◌≡◌, ℕ, zero, suc, ◌+◌, ◌<◌, ◌≤◌, Bool, true, false, not, ◌&&◌, ◌||◌, ◌==◌, cond, List, [], ◌∷◌, ◌++◌, length, get_or, set, take, drop, filter, map, refl, sym, ap, ◌∙◌, subst, inl, inr, arith, ne_eqb, eq-eqb}
 use Rattle.std.proofs.lemmas.Bool.{cases_eq, cases_Bool, eqb-true}
-use Rattle.std.proofs.lemmas.List.{take-append-drop, drop_more, append-nil, take_all, length-set, get_or-set_same, get_or-set_other}
-use Rattle.std.proofs.lemmas.List.Elements.{filter-append, filter_more}
+use Rattle.std.proofs.lemmas.List.{take-append-drop, drop_more, take_all, map_more, length-set, get_or-set_same, get_or-set_other}
+use Rattle.std.proofs.lemmas.List.Elements.{filter-append}
 use Rattle.std.proofs.lemmas.List.Folds.{list_any_more}
 use Rattle.std.proofs.lemmas.List.FromFn.{length-range_with_len, get_or-range_with_len}
 use Rattle.std.specs.List.{list_any, range_with_len}
@@ -16,11 +16,11 @@ use Rattle.tda_tool.specs.Plain.{is_first, is_home, homes}
 abbrev pub is_seen : Schema → ℕ → ℕ → Bool
 is_seen s n k = list_any (λ j. is_possible s j && (kind_of s j == k)) (take n (all_cells s))
 
--- which kinds are found among the first n cells, and their homes
-pub record Found (s : Schema) (n : ℕ) (found : List Bool) (cells : List ℕ) : Type 0 where
+-- which kinds are found among the first n cells, and which of these cells are homes
+pub record Found (s : Schema) (n : ℕ) (found marks : List Bool) : Type 0 where
   pub size : length found ≡ kind_count s
   pub seen : (k : ℕ) → k < kind_count s → get_or found k false ≡ is_seen s n k
-  pub homes_are : cells ≡ filter (is_home s) (take n (all_cells s))
+  pub homes_are : marks ≡ map (is_home s) (take n (all_cells s))
 
 is_filled : List ℕ → Bool
 is_filled [] = false
@@ -118,67 +118,48 @@ module _ (s : Schema) (n : ℕ) (here : n < cell_count s) where
       list_any_more (λ j. is_possible s j && (kind_of s j == k)) (all_cells s) n 0 enough
       ∙ ap (λ j. is_seen s n k || (is_possible s j && (kind_of s j == k))) at_n
 
-  one_more_home : filter (is_home s) (take (n + 1) (all_cells s)) ≡ filter (is_home s) (take n (all_cells s)) ++ cond (is_home s n) (n ∷ []) []
+  one_more_home : map (is_home s) (take (n + 1) (all_cells s)) ≡ map (is_home s) (take n (all_cells s)) ++ is_home s n ∷ []
   one_more_home =
-      filter_more (is_home s) (all_cells s) n 0 enough
-      ∙ ap (λ j. filter (is_home s) (take n (all_cells s)) ++ cond (is_home s j) (j ∷ []) []) at_n
+      map_more (is_home s) (all_cells s) n 0 enough
+      ∙ ap (λ j. map (is_home s) (take n (all_cells s)) ++ is_home s j ∷ []) at_n
 
-  module _ (found : List Bool) (cells : List ℕ) (h : Found s n found cells) where
-    no_more : is_home s n ≡ false → cells ≡ filter (is_home s) (take (n + 1) (all_cells s))
-    no_more isnt =
-        h.homes_are
-        ∙ sym (one_more_home ∙ ap (λ b. filter (is_home s) (take n (all_cells s)) ++ cond b (n ∷ []) []) isnt ∙ append-nil (filter (is_home s) (take n (all_cells s))))
+  module _ (found marks : List Bool) (h : Found s n found marks) where
+    marked : (mark : Bool) → is_home s n ≡ mark → marks ++ mark ∷ [] ≡ map (is_home s) (take (n + 1) (all_cells s))
+    marked mark is = ap (λ xs. xs ++ mark ∷ []) h.homes_are ∙ ap (λ b. map (is_home s) (take n (all_cells s)) ++ b ∷ []) (sym is) ∙ sym one_more_home
 
-    -- an impossible cell
-    pub found_never : is_possible s n ≡ false → Found s (n + 1) found cells
+    -- a cell that is impossible
+    pub found_never : is_possible s n ≡ false → Found s (n + 1) found (marks ++ false ∷ [])
     found_never never = record {
       size = h.size;
       seen = λ k l. h.seen k l ∙ sym (one_more_seen k ∙ ap (λ b. is_seen s n k || (b && (kind_of s n == k))) never ∙ or_false (is_seen s n k));
-      homes_are = no_more (never_home never);
+      homes_are = marked false (never_home never);
     }
 
-    module _ (possible : is_possible s n ≡ true) (in_range : kind_of s n < kind_count s) where
-      seen_of : (k : ℕ) → is_seen s (n + 1) k ≡ (is_seen s n k || (kind_of s n == k))
-      seen_of k = one_more_seen k ∙ ap (λ b. is_seen s n k || (b && (kind_of s n == k))) possible
-
-      -- of a kind that has its home
-      pub found_before : get_or found (kind_of s n) false ≡ true → Found s (n + 1) found cells
-      found_before is =
-          let seen : is_seen s n (kind_of s n) ≡ true = sym (h.seen (kind_of s n) in_range) ∙ is in
-          record {
-            size = h.size;
-            seen = λ k l. h.seen k l ∙ sym (seen_of k ∙ elim (cases_eq (kind_of s n) k) [
-              | inl e ↦ let k_seen : is_seen s n k ≡ true = sym (ap (is_seen s n) e) ∙ seen in ap (λ b. b || (kind_of s n == k)) k_seen ∙ sym k_seen
-              | inr ne ↦ ap (λ b. is_seen s n k || b) (ne_eqb (kind_of s n) k ne) ∙ or_false (is_seen s n k)
-            ]);
-            homes_are = no_more (home_here possible ∙ ap not seen);
-          }
-
-      -- of a kind that has none so far
-      pub found_now : get_or found (kind_of s n) false ≡ false → Found s (n + 1) (set found (kind_of s n) true) (cells ++ n ∷ [])
-      found_now isnt =
-          let unseen : is_seen s n (kind_of s n) ≡ false = sym (h.seen (kind_of s n) in_range) ∙ isnt in
-          record {
-            size = length-set found (kind_of s n) true ∙ h.size;
-            seen = λ k l. elim (cases_eq k (kind_of s n)) [
-              | inl e ↦
-                  ap (λ m. get_or (set found (kind_of s n) true) m false) e
-                  ∙ get_or-set_same found (kind_of s n) true false (omega (arith, h.size))
-                  ∙ sym (seen_of k ∙ ap (λ b. is_seen s n k || b) (eq-eqb (kind_of s n) k (sym e)) ∙ or_true (is_seen s n k))
-              | inr ne ↦
-                  get_or-set_other found (kind_of s n) k true false ne
-                  ∙ h.seen k l
-                  ∙ sym (seen_of k ∙ ap (λ b. is_seen s n k || b) (ne_eqb (kind_of s n) k (λ e. ne (sym e))) ∙ or_false (is_seen s n k))
-            ];
-            homes_are =
-                ap (λ xs. xs ++ n ∷ []) h.homes_are
-                ∙ sym (one_more_home ∙ ap (λ b. filter (is_home s) (take n (all_cells s)) ++ cond b (n ∷ []) []) (home_here possible ∙ ap not unseen));
-          }
+    -- a possible one, where it is known whether its kind is found
+    pub found_possible : is_possible s n ≡ true → kind_of s n < kind_count s → (before : Bool) → get_or found (kind_of s n) false ≡ before
+        → Found s (n + 1) (set found (kind_of s n) true) (marks ++ not before ∷ [])
+    found_possible possible in_range before at =
+        let seen_of : (k : ℕ) → is_seen s (n + 1) k ≡ (is_seen s n k || (kind_of s n == k)) =
+        λ k. one_more_seen k ∙ ap (λ b. is_seen s n k || (b && (kind_of s n == k))) possible in
+        record {
+          size = length-set found (kind_of s n) true ∙ h.size;
+          seen = λ k l. elim (cases_eq k (kind_of s n)) [
+            | inl e ↦
+                ap (λ m. get_or (set found (kind_of s n) true) m false) e
+                ∙ get_or-set_same found (kind_of s n) true false (omega (arith, h.size))
+                ∙ sym (seen_of k ∙ ap (λ b. is_seen s n k || b) (eq-eqb (kind_of s n) k (sym e)) ∙ or_true (is_seen s n k))
+            | inr ne ↦
+                get_or-set_other found (kind_of s n) k true false ne
+                ∙ h.seen k l
+                ∙ sym (seen_of k ∙ ap (λ b. is_seen s n k || b) (ne_eqb (kind_of s n) k (λ e. ne (sym e))) ∙ or_false (is_seen s n k))
+          ];
+          homes_are = marked (not before) (home_here possible ∙ ap not (sym (h.seen (kind_of s n) in_range) ∙ at));
+        }
 
 -- nothing is found before the first cell
 pub found_none : (s : Schema) (found : List Bool) → length found ≡ kind_count s → ((k : ℕ) → k < kind_count s → get_or found k false ≡ false) → Found s 0 found []
 found_none s found size none = record { size = size; seen = none; homes_are = refl }
 
 -- all homes are found behind the last
-pub found_all : (s : Schema) (n : ℕ) (found : List Bool) (cells : List ℕ) → Found s n found cells → cell_count s ≤ n → cells ≡ homes s
-found_all s n found cells h all = h.homes_are ∙ ap (filter (is_home s)) (take_all n (all_cells s) (omega (arith, length-range_with_len 0 (cell_count s))))
+pub found_all : (s : Schema) (n : ℕ) (found marks : List Bool) → Found s n found marks → cell_count s ≤ n → marks ≡ homes s
+found_all s n found marks h all = h.homes_are ∙ ap (map (is_home s)) (take_all n (all_cells s) (omega (arith, length-range_with_len 0 (cell_count s))))

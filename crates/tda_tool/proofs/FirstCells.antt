@@ -1,13 +1,12 @@
 -- The first possible cell of each kind.
-use Rattle.std.proofs.Common.{◌≡◌, ℕ, ◌+◌, ◌<◌, ◌≤◌, Bool, true, eqb, ◌==◌, List, [], ◌∷◌, refl, sym, ap, ◌∙◌, subst, inl, inr, arith, ne_eqb, eq-eqb, All}
+use Rattle.std.proofs.Common.{◌≡◌, ℕ, ◌<◌, true, eqb, ◌==◌, List, [], ◌∷◌, refl, sym, ap, ◌∙◌, subst, inl, inr, arith, ne_eqb, eq-eqb}
 use Rattle.std.proofs.lemmas.Bool.{cases_eq, eqb-true}
-use Rattle.std.proofs.lemmas.List.Elements.{All-from_recursion}
 use Rattle.tda_model.specs.Schema.{Schema}
 use Rattle.tda_model.specs.Cells.{cell_count, is_possible, kind_of, all_cells, possible_cells}
 use Rattle.tda_model.specs.Groups.{kind_count, kind_cells}
 use Rattle.tda_model.specs.Bounds.{HasKinds}
 use Rattle.tda_model.proofs.Sums.{Each, each_filter, each_range, filter_each, range_each}
-use Rattle.tda_tool.specs.Plain.{is_first, is_home, homes}
+use Rattle.tda_tool.specs.Plain.{is_first, is_home}
 
 eqb_turned : (a b : ℕ) → eqb a b ≡ eqb b a
 eqb_turned a b = elim (cases_eq a b) [ inl e ↦ eq-eqb a b e ∙ sym (eq-eqb b a (sym e)) | inr ne ↦ ne_eqb a b ne ∙ sym (ne_eqb b a (λ e. ne (sym e))) ]
@@ -47,7 +46,3 @@ pub home_of : (s : Schema) → HasKinds s → (k : ℕ) → k < kind_count s →
 home_of s has k l =
     let c = has.cell k l in
     first_of s k c.0 (record { here = c.1; possible = c.2; kind = c.3 }) (kind_cells s k) refl
-
--- homes are cells
-pub homes_within : (s : Schema) → All (λ j. j < cell_count s) (homes s)
-homes_within s = All-from_recursion (λ j. j < cell_count s) (homes s) (each_filter (λ j. j < cell_count s) (is_home s) (all_cells s) (each_range _ 0 (cell_count s) (λ j low high is. omega arith)))

@@ -12,7 +12,6 @@ pub mod FirstCells
 pub mod FindHomes
 pub mod ByKind
 pub mod Parents
-pub mod ByKindText
 pub mod PlainCounts
 pub mod PlainText
 mod Worked

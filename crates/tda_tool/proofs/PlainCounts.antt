@@ -1,12 +1,12 @@
 -- The plain counts add up, and each state has its total.
-use Rattle.std.proofs.Common.{◌≡◌, ℕ, zero, suc, ◌+◌, ◌-◌, ◌*◌, ◌<◌, ◌≤◌, ◌^◌, slice_index, cond, eqb, ◌==◌, Bool, true, false, Some, None, List, [], ◌∷◌, filter, get_or, refl, sym, ap, ◌∙◌, subst, inl, inr, ◌⊎◌, arith, ne_eqb, eq-eqb, length}
+use Rattle.std.proofs.Common.{◌≡◌, ℕ, zero, suc, ◌+◌, ◌-◌, ◌<◌, ◌≤◌, slice_index, cond, eqb, ◌==◌, Bool, true, false, Some, None, List, [], ◌∷◌, filter, get_or, refl, sym, ap, ◌∙◌, subst, inl, inr, ◌⊎◌, arith, ne_eqb, eq-eqb, length}
 use Rattle.std.proofs.lemmas.Bool.{cases_eq, cases_Bool, eqb-true}
 use Rattle.std.proofs.lemmas.List.Sums.{sum_by-cons}
 use Rattle.std.proofs.lemmas.List.FromFn.{get_or-map-range_with_len, length-map-range_with_len, length-range_with_len}
 use Rattle.std.specs.List.{All, sum_by, range_with_len}
 use Rattle.std.proofs.lemmas.List.Elements.{All-from_recursion, All-from_get_or}
 use Rattle.tda_model.specs.Groups.{kind_count}
-use Rattle.tda_model.specs.Spine.{Spine, level_of, parent_of, is_at, is_child, children_of, blocks_of, units_at, nation_of, IsUnit, HasParent, IsTree}
+use Rattle.tda_model.specs.Spine.{Spine, level_of, parent_of, is_at, is_child, children_of, units_at, nation_of, IsUnit, HasParent, IsTree}
 use Rattle.tda_model.specs.Bounds.{persons_limit, low, needed}
 use Rattle.tda_model.proofs.Sums.{Each, sum_same, sum_add, sum_one, sum_zero, sum_filter, each_filter, each_range, each_any, each_weaker, range_each, filter_each, Ascends, range_ascends, filter_ascends}
 use Rattle.tda_model.proofs.Tree.{child_tells, blocks_split}

@@ -1,13 +1,14 @@
 -- The text of the plain tables is that of tables that are owed.
-use Rattle.std.proofs.Common.{◌≡◌, ◌++◌, List, ℕ, sym, ◌∙◌, append_assoc}
+use Rattle.std.proofs.Common.{◌≡◌, ◌++◌, List, [], ◌∷◌, ℕ, sym, ◌∙◌, append_assoc}
 use Rattle.std.specs.List.{flat_map}
 use Rattle.tda_model.specs.Spine.{nation_of, children_of, parents_of}
 use Rattle.tda_model.specs.Tables.{Tables, AddUp}
 use Rattle.tda_model.specs.TablesText.{tables_header, tables_text}
 use Rattle.tda_tool.specs.Attained.{Inputs, IsAttained, known_of, AreSound}
-use Rattle.tda_tool.specs.Plain.{persons, plain_rows}
-use Rattle.tda_tool.proofs.ByKind.{by_kind, cells_add, cells_attained}
-use Rattle.tda_tool.proofs.ByKindText.{by_kind_text}
+use Rattle.tda_out.specs.Written.{rows_in}
+use Rattle.tda_out.proofs.WrittenRows.{make_up_file}
+use Rattle.tda_tool.specs.Plain.{persons, by_kind, plain_table}
+use Rattle.tda_tool.proofs.ByKind.{cells_add, cells_attained}
 use Rattle.tda_tool.proofs.Parents.{each_parent}
 use Rattle.tda_tool.proofs.PlainCounts.{plain_shared}
 
@@ -23,10 +24,10 @@ plain_attained i sound =
     }
 
 pub plain_owed : (i : Inputs) (text : List ℕ) → AreSound i
-    → text ≡ (tables_header ++ plain_rows i (nation_of i.spine)) ++ flat_map (λ p. flat_map (plain_rows i) (children_of i.spine p)) (parents_of i.spine)
+    → text ≡ (tables_header ++ rows_in i.schema i.spine (plain_table i) (nation_of i.spine ∷ [])) ++ flat_map (λ p. rows_in i.schema i.spine (plain_table i) (children_of i.spine p)) (parents_of i.spine)
     → (x : Tables) × IsAttained i x × (text ≡ tables_text i.schema i.spine x)
 plain_owed i text sound e = (
-  by_kind i.schema (persons i),
+  plain_table i,
   plain_attained i sound,
-  e ∙ append_assoc tables_header (plain_rows i (nation_of i.spine)) _ ∙ sym (by_kind_text i.schema i.spine (persons i)),
+  e ∙ append_assoc tables_header (rows_in i.schema i.spine (plain_table i) (nation_of i.spine ∷ [])) _ ∙ sym (make_up_file i.schema i.spine (plain_table i)),
 )

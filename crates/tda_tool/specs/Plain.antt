@@ -1,13 +1,12 @@
 -- The plain tables. Persons of each kind are in its first possible cell. Of each kind but the first a unit has as many as its facilities
 -- need, and what a state's total leaves are households, which below the states the first child of each unit has.
-use Rattle.std.specs.Prelude.{ℕ, zero, suc, ◌-◌, Bool, false, ◌==◌, if◌then◌else◌, List, [], ◌∷◌, filter, map, sum_by, slice_index, Some, None}
-use Rattle.std.specs.List.{flat_map}
+use Rattle.std.specs.Prelude.{ℕ, zero, suc, ◌-◌, Bool, false, ◌==◌, if◌then◌else◌, List, [], ◌∷◌, map, sum_by, slice_index, Some, None}
 use Rattle.tda_model.specs.Schema.{Schema}
 use Rattle.tda_model.specs.Cells.{kind_of, all_cells}
 use Rattle.tda_model.specs.Groups.{kind_cells}
-use Rattle.tda_model.specs.Spine.{Spine, level_of, parent_of, is_at, unit_numbers, units_at, children_of, code_of}
+use Rattle.tda_model.specs.Spine.{Spine, level_of, parent_of, is_at, unit_numbers, units_at, children_of}
 use Rattle.tda_model.specs.Bounds.{low, needed}
-use Rattle.tda_model.specs.TablesText.{count_row}
+use Rattle.tda_model.specs.Tables.{Tables}
 use Rattle.tda_tool.specs.Attained.{Inputs, known_of}
 
 -- what a state's total leaves beside its facilities' needs, and nobody of another unit
@@ -39,9 +38,13 @@ persons i u kind = if kind == 0 then passed_down i.spine (slice_index (spares i)
 abbrev pub is_home : Schema → ℕ → Bool
 is_home s j = is_first (kind_cells s (kind_of s j)) j
 
-abbrev pub homes : Schema → List ℕ
-homes s = filter (is_home s) (all_cells s)
+abbrev pub homes : Schema → List Bool
+homes s = map (is_home s) (all_cells s)
 
--- the rows of a unit in the file of the plain tables
-abbrev pub plain_rows : Inputs → ℕ → List ℕ
-plain_rows i u = flat_map (λ j. count_row (code_of i.spine u) j (persons i u (kind_of i.schema j))) (homes i.schema)
+-- so many persons of each unit and kind, each kind's in its first possible cell
+abbrev pub by_kind : Schema → (ℕ → ℕ → ℕ) → Tables
+by_kind s count u j = if is_home s j then count u (kind_of s j) else 0
+
+-- the plain tables
+abbrev pub plain_table : Inputs → Tables
+plain_table i = by_kind i.schema (persons i)

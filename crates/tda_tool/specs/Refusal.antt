@@ -31,7 +31,6 @@ schema_text schema.Denominator = codes "Denominator"
 schema_text schema.OverTotal = codes "OverTotal"
 schema_text schema.NotNested = codes "NotNested"
 schema_text schema.KindWithoutCell = codes "KindWithoutCell"
-schema_text schema.NotYet = codes "NotYet"
 schema_text schema.NoMemory = []
 
 -- a name and, after a space, a unit's code

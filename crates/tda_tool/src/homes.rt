@@ -6,17 +6,19 @@ use std::alloc::Global;
 use tda_io::NoMemory;
 use tda_schema::Schema;
 
-/// The first possible cell of each kind, in order.
-pub(crate) fn homes(alloc: Global, schema: &Schema) -> Result<Vec<u32>, NoMemory>
+/// For each cell whether it is the first possible one of its kind.
+pub(crate) fn homes(alloc: Global, schema: &Schema) -> Result<Vec<bool>, NoMemory>
     ensures { IfOk result (λ v. v.items ≡ spec.homes schema.now) }
 {
     let mut found = vec![in alloc; false; usize::from(schema.kinds())]?;
     let mut homes = Vec::new(alloc);
     for cell in 0..schema.cells() {
         let kind = usize::from(schema.kind_of(cell));
-        if schema.possible(cell) && !found[kind] {
+        if schema.possible(cell) {
+            homes.push(!found[kind])?;
             found[kind] = true;
-            homes.push(cell)?;
+        } else {
+            homes.push(false)?;
         }
     }
     Ok(homes)

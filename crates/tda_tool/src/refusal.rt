@@ -70,7 +70,6 @@ fn schema_text(fault: SchemaFault) -> &'static str
         SchemaFault::OverTotal => "OverTotal",
         SchemaFault::NotNested => "NotNested",
         SchemaFault::KindWithoutCell => "KindWithoutCell",
-        SchemaFault::NotYet => "NotYet",
         SchemaFault::NoMemory => "",
     }
 }

@@ -2,7 +2,7 @@ use Rattle.std.proofs.Common.{◌≡◌, List, ℕ, subst, sym, ap, ◌∙◌}
 use Rattle.tda_io.specs.Texts.{IsPlain}
 use Rattle.tda_model.specs.Schema.{Level}
 use Rattle.tda_schema.specs.Stated.{level_at, query_at}
-use Rattle.tda_ledger.proofs.PlainNames.{plain_name}
+use Rattle.tda_io.proofs.PlainNames.{plain_name}
 use Rattle.tda_ledger.proofs.Rows.{named_at}
 use Rattle.tda_ledger.proofs.write.push_query.Goals as goal
 

@@ -1,4 +1,4 @@
-use Rattle.std.proofs.Common.{◌≤◌, get_or, length, false, arith}
+use Rattle.std.proofs.Common.{get_or, false, arith}
 use Rattle.tda_schema.proofs.Marks.{judged_all}
 use Rattle.tda_schema.proofs.cells.keep_marked.Goals as goal
 

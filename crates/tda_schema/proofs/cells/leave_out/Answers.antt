@@ -1,4 +1,4 @@
-use Rattle.std.proofs.Common.{◌≤◌, get_or, length, false, not, arith}
+use Rattle.std.proofs.Common.{get_or, false, not, arith}
 use Rattle.tda_schema.proofs.Marks.{judged_all}
 use Rattle.tda_schema.proofs.cells.leave_out.Goals as goal
 

@@ -1,6 +1,6 @@
-use Rattle.std.proofs.Common.{◌≡◌, ◌∙◌, ◌+◌, ap, sym, length, take, map}
+use Rattle.std.proofs.Common.{◌≡◌, ◌∙◌, ◌+◌, ap, sym, length, take}
 use Rattle.std.proofs.lemmas.List.{with_items_is}
-use Rattle.tda_model.specs.Cells.{cell_count, is_listed, all_cells}
+use Rattle.tda_model.specs.Cells.{cell_count, is_listed}
 use Rattle.tda_schema.proofs.ColumnLemmas.{column_length}
 use Rattle.tda_schema.proofs.Possible.{nothing_out, marks_length, listed_more}
 use Rattle.tda_schema.proofs.cells.matched_cells.Goals as goal

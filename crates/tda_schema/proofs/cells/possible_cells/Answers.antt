@@ -1,6 +1,6 @@
-use Rattle.std.proofs.Common.{◌≡◌, ◌∙◌, ◌+◌, ◌<◌, ◌≤◌, List, Vec, All, ap, sym, subst, length, get_or, map, arith}
+use Rattle.std.proofs.Common.{◌≡◌, ◌∙◌, ◌+◌, ◌<◌, ◌≤◌, All, ap, sym, subst, length, get_or, map, arith}
 use Rattle.std.proofs.lemmas.List.{length-map, get_or-map, with_items_is}
-use Rattle.tda_model.specs.Schema.{Listed, Schema}
+use Rattle.tda_model.specs.Schema.{Schema}
 use Rattle.tda_model.specs.Cells.{cell_count, is_listed, all_cells}
 use Rattle.tda_schema.specs.Stated.{IsListedOf}
 use Rattle.tda_schema.proofs.ColumnLemmas.{column_length}

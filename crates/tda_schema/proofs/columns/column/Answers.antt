@@ -1,4 +1,4 @@
-use Rattle.std.proofs.Common.{◌≡◌, ℕ, ◌/◌, ◌%◌, refl}
+use Rattle.std.proofs.Common.{ℕ, ◌/◌, ◌%◌, refl}
 use Rattle.tda_sets.proofs.Ranges.{map_range_push}
 use Rattle.tda_schema.proofs.columns.column.Goals as goal
 

@@ -1,4 +1,4 @@
-use Rattle.std.proofs.Common.{◌≡◌, ◌≤◌, ◌*◌, true, drop}
+use Rattle.std.proofs.Common.{◌≡◌, ◌*◌, true, drop}
 use Rattle.std.specs.List.{list_all}
 use Rattle.tda_model.specs.Cells.{cells_in}
 use Rattle.tda_schema.specs.Sizes.{attribute_has_size}

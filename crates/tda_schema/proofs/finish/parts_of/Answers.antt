@@ -1,23 +1,24 @@
-use Rattle.std.proofs.Common.{◌≡◌, true, length, Ok, refl, sym, ap, ◌∙◌, subst}
+use Rattle.std.proofs.Common.{◌≡◌, ◌∙◌, true, sym, ap}
+use Rattle.std.specs.List.{list_all}
 use Rattle.tda_model.specs.Schema.{Schema}
-use Rattle.tda_schema.specs.Parts.{Parts, ArePartsOf}
-use Rattle.tda_schema.specs.Thin.{is_thin, thin_parts}
-use Rattle.tda_schema.specs.Read as spec
-use Rattle.tda_schema.proofs.ThinParts.{thin_are_parts}
+use Rattle.tda_schema.specs.Parts.{has_kinds}
+use Rattle.tda_schema.specs.Sizes.{attribute_has_size}
+use Rattle.tda_schema.proofs.LevelLemmas.{are_sized, parts_made, parted_is}
 use Rattle.tda_schema.proofs.finish.parts_of.Goals as goal
-use Rattle.tda_schema.proofs.finish.parts_of.Goals.{In_ok-thin_parts}
-
-thin : (c : In_ok-thin_parts) → is_thin c.args.stated.now ≡ true
-thin c = sym c.is_thin.ensures ∙ c.if-not-is_thin.false
-
-made : (c : In_ok-thin_parts) → c.in_ok-thin_parts.field-0 ≡ thin_parts (length c.args.stated.now.levels)
-made c = c.in_ok-thin_parts.ensures ∙ ap thin_parts (c.len.ensures ∙ c.stated.inside.levels.ok.0 ∙ ap (λ (s : Schema). length s.levels) c.stated.view_is)
-
-parted_is : (s : Schema) (p : Parts) → is_thin s ≡ true → ArePartsOf s p → spec.parted s ≡ Ok p
-parted_is s p is are = rw (is, are.value) refl
-
-pub returns-clause-parts : goal.returns-clause-parts
-returns-clause-parts c = rw (made c) (thin_are_parts c.args.stated.now (thin c))
 
 pub returns-clause-value : goal.returns-clause-value
-returns-clause-value c = parted_is c.args.stated.now c.in_ok-thin_parts.field-0 (thin c) (rw (made c) (thin_are_parts c.args.stated.now (thin c)))
+returns-clause-value c =
+    let s = c.args.stated.now in
+    let kinds : has_kinds s ≡ true = sym c.in_ok-has_kinds.ensures ∙ c.if-not-branch.false in
+    parted_is s c.requires c.in_ok-possible.possible.items c.in_ok-levels.levels.items c.in_ok-possible.ensures c.in_ok-levels.ensures kinds
+
+pub returns-clause-parts : goal.returns-clause-parts
+returns-clause-parts c =
+    let s = c.args.stated.now in
+    let kinds : has_kinds s ≡ true = sym c.in_ok-has_kinds.ensures ∙ c.if-not-branch.false in
+    parts_made s c.requires c.in_ok-possible.possible.items c.in_ok-levels.levels.items c.in_ok-possible.ensures c.in_ok-levels.ensures kinds
+
+pub new-requires-clause-sized : goal.new-requires-clause-sized
+new-requires-clause-sized c =
+    let s = c.args.stated.now in
+    ap (list_all attribute_has_size) (c.deref.ensures.value ∙ ap (λ (t : Schema). t.attributes) c.stated.view_is) ∙ are_sized s.attributes c.requires.limits.some_value c.requires.limits.values

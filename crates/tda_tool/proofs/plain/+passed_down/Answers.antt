@@ -1,5 +1,5 @@
-use Rattle.std.proofs.Common.{◌≡◌, ◌<◌, ◌≤◌, ◌^◌, All, true, false, cond, slice_index, sum_by, length, sym, ap, subst, ◌∙◌, arith, rules}
-use Rattle.tda_model.specs.Spine.{nation_of, parent_of, children_of, level_of, units_at, IsTree}
+use Rattle.std.proofs.Common.{◌≡◌, ◌<◌, All, true, false, cond, slice_index, sum_by, length, sym, ap, subst, ◌∙◌, arith}
+use Rattle.tda_model.specs.Spine.{nation_of, children_of}
 use Rattle.tda_tool.specs.Plain.{is_first, passed_down}
 use Rattle.tda_tool.proofs.PlainCounts.{states_within, few_states, passed_below, passed_at_top, passed_at_state}
 use Rattle.tda_tool.proofs.plain.+passed_down.Goals as goal

@@ -1,4 +1,4 @@
-use Rattle.std.proofs.Common.{◌≡◌, ◌<◌, ◌∙◌, ap, arith}
+use Rattle.std.proofs.Common.{◌≡◌, ◌<◌, ap, arith}
 use Rattle.tda_model.specs.Groups.{kind_count}
 use Rattle.tda_tool.proofs.PlainCounts.{few_persons, still_left, left_after, left_is_spare}
 use Rattle.tda_tool.proofs.plain.spare.Goals as goal

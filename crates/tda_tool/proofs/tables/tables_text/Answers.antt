@@ -1,28 +1,20 @@
-use Rattle.std.proofs.Common.{◌++◌, All, subst, sym, ap, ◌∙◌, take_all, get_or}
+use Rattle.std.proofs.Common.{◌≡◌, ℕ, List, ◌++◌, ◌∷◌, [], ap, ◌∙◌}
 use Rattle.std.specs.List.{flat_map}
-use Rattle.tda_model.specs.Spine.{nation_of, children_of, parents_of, IsUnit}
+use Rattle.tda_model.specs.Spine.{nation_of, children_of, parents_of}
 use Rattle.tda_model.specs.TablesText.{tables_header}
-use Rattle.tda_tool.specs.Plain.{plain_rows}
-use Rattle.tda_tool.proofs.Parents.{each_parent}
-use Rattle.tda_tool.proofs.PlainCounts.{children_here}
+use Rattle.tda_out.specs.Written.{rows_in}
+use Rattle.tda_tool.specs.Plain.{plain_table}
 use Rattle.tda_tool.proofs.PlainText.{plain_owed}
 use Rattle.tda_tool.proofs.tables.tables_text.Goals as goal
-
-pub children-requires : goal.children-requires
-children-requires c =
-    let sp = c.spine-spine.result.now in
-    subst (All (IsUnit sp)) (sym c.parents-parent-items.ensures) (each_parent sp (IsUnit sp) c.nation.ensures.sound.tree (λ p here low. here)) c.loop-parent.parent-index 0 c.loop-parent-test.true
-
-pub push_units-requires-clause-units : goal.push_units-requires-clause-units
-push_units-requires-clause-units c =
-    let sp = c.args.inputs.now.spine in
-    let parent = get_or c.parents-parent-items.result.now c.loop-parent.parent-index 0 in
-    subst (All (IsUnit sp)) (sym (c.children.ensures ∙ ap (λ tree. children_of tree parent) c.spine-spine.ensures.value)) (children_here sp parent)
 
 pub returns : goal.returns
 returns c =
     let i = c.args.inputs.now in
-    plain_owed i c.loop-parent.out.items c.spine-spine.ensures.sound
-    (c.loop-parent.invariant
-    ∙ ap (λ ps. (tables_header ++ plain_rows i (nation_of i.spine)) ++ flat_map (λ p. flat_map (plain_rows i) (children_of i.spine p)) ps)
-    (take_all _ _ c.loop-parent-test.false ∙ c.parents-parent-items.ensures ∙ ap parents_of c.spine-spine.ensures.value))
+    let rows : ℕ → List ℕ = λ u. rows_in i.schema i.spine (plain_table i) (u ∷ []) in
+    let below = flat_map (λ p. rows_in i.schema i.spine (plain_table i) (children_of i.spine p)) (parents_of i.spine) in
+    let nation : c.nation-nation.result ≡ nation_of i.spine = c.nation-nation.ensures.nation ∙ ap nation_of c.spine.ensures.value in
+    plain_owed i c.push_children.new.out.items c.spine.ensures.sound
+    (c.in_ok-push_children.ensures
+    ∙ ap (λ t. t ++ below) (c.in_ok-push_units.ensures
+    ∙ ap (λ t. t ++ rows c.nation-nation.result) (c.in_ok-write_tables_header.ensures.ok ∙ ap (λ t. t ++ tables_header) c.new-out.ensures.items)
+    ∙ ap (λ u. tables_header ++ rows u) nation))

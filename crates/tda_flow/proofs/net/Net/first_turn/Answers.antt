@@ -1,7 +1,7 @@
 use Rattle.std.proofs.Common.{◌≡◌, ◌*◌, sym, ap, subst, ◌∙◌}
 use Rattle.tda_flow.specs.Network.{arc_count}
 use Rattle.tda_flow.specs.Turns.{IsLastBelow}
-use Rattle.tda_flow.specs.Lanes.{head_at}
+use Rattle.tda_flow.specs.Links.{head_at}
 use Rattle.tda_flow.specs.NetView.{network_of}
 use Rattle.tda_flow.proofs.net.Net.first_turn.Goals as goal
 

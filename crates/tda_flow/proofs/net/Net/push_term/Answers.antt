@@ -12,11 +12,12 @@ invariant_of-self-2 c =
     let nodes = c.self.inside.nodes in
     let lanes = c.self.inside.lanes.items in
     let terms = c.self.inside.terms.items in
+    let all = c.self.inside.links.items in
     let heads = c.self.inside.heads.items in
     let some = subst (λ (n : Network). 0 < arc_count n) (sym c.self.view_is) c.requires.some in
     let room = subst (λ (n : Network). length (terms_at n (arc_count n - 1)) < 8) (sym c.self.view_is) c.requires.room in
-    subst (λ z. IsKeptBy (seen nodes lanes z) lanes z heads) (sym c.in_ok-push.ensures.items)
-    (kept-push_term nodes lanes terms heads c.args.term c.self.invariant some c.requires.fits room)
+    subst (λ z. IsKeptBy (seen nodes lanes z) lanes all z heads) (sym c.in_ok-push.ensures.items)
+    (kept-push_term nodes lanes all terms heads c.args.term c.self.invariant some c.requires.fits room)
 
 pub returns-clause-ok : goal.returns-clause-ok
 returns-clause-ok c =

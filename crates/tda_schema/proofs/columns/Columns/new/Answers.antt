@@ -1,4 +1,4 @@
-use Rattle.std.proofs.Common.{◌≡◌, ◌≤◌, ◌/◌, ◌%◌, ◌+◌, ◌∙◌, ℕ, List, length, map, drop, ap, sym, arith, string_bytes}
+use Rattle.std.proofs.Common.{◌≡◌, ◌/◌, ◌%◌, ◌+◌, ◌∙◌, length, map, drop, ap, sym, string_bytes}
 use Rattle.std.specs.List.{range_with_len}
 use Rattle.std.proofs.lemmas.List.{length-map, map_push}
 use Rattle.tda_model.specs.Cells.{cells_in}

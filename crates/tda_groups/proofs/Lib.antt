@@ -1,0 +1,12 @@
+pub mod Buckets
+pub mod Ascending
+pub mod Classes
+pub mod Ordering
+pub mod Chained
+pub mod Walked
+pub mod Once
+pub mod Filled
+pub mod LevelSets
+pub mod Places
+pub mod TreeFacts
+pub mod Callers

@@ -1,0 +1,20 @@
+use Rattle.std.proofs.Common.{◌≡◌, ◌∙◌, ◌<◌, length, get_or, Contains, Some, None, subst, sym, arith}
+use Rattle.std.proofs.lemmas.List.{get_or_read}
+use Rattle.std.proofs.lemmas.Option.{MatchOption-at_some}
+use Rattle.tda_groups.specs.Order.{group_at, IsSmallest}
+use Rattle.tda_groups.proofs.chains.Chains.smallest.Goals as goal
+use Rattle.tda_groups.proofs.chains.Chains.smallest.Goals.{After-self}
+
+whole : (c : After-self) → Contains (group_at c.self.inside.groups.items 0) c.args.cell
+whole c = subst (λ gs. Contains (group_at gs 0) c.args.cell) (sym c.self.view_is) c.requires
+
+pub index-requires : goal.index-requires
+index-requires c = omega (arith, c.self.invariant.smallest_count c.args.cell (whole c), c.self.inside.smallest.ok.0)
+
+pub returns : goal.returns
+returns c =
+    let d = (goal.at.returns c).After-self in
+    let below = c.self.invariant.smallest_count c.args.cell (whole d) in
+    let is = sym (get_or_read c.self.inside.smallest.items c.args.cell c.index.result.now below c.index.ensures None) ∙ c.unwrap.ensures in
+    subst (λ gs. IsSmallest gs c.args.cell c.unwrap.result) c.self.view_is
+    (MatchOption-at_some ⊥ (IsSmallest c.self.inside.groups.items c.args.cell) c.unwrap.result is (c.self.invariant.smallest_is c.args.cell (whole d)))

@@ -1,0 +1,127 @@
+// The groups of levels, in order, and those of cells, kinds and classes.
+ghost use Rattle.std.specs.Prelude.{◌<◌, length};
+ghost use Rattle.tda_model.specs.Cells.{cell_count};
+ghost use Rattle.tda_model.specs.Groups.{kind_count, classes_of};
+ghost use Rattle.tda_schema.specs.Stated.{level_at, queries_at, query_at};
+ghost use Rattle.tda_groups.specs.Tree.{IsTreeOf};
+
+use crate::{GroupTree, tree};
+use std::test::Fail;
+use tda_schema::{Schema, read_schema};
+
+// Ten of twelve cells are possible: nobody in prison is minor.
+const PRISON: &str = r#"
+version = 1
+total = "1"
+zero = [{ kind = ["prison"], age = ["minor"] }]
+
+[[attribute]]
+name = "kind"
+values = ["house", "dorm", "prison"]
+
+[[attribute]]
+name = "sex"
+values = ["f", "m"]
+
+[[attribute]]
+name = "age"
+values = ["minor", "adult"]
+
+[[level]]
+name = "nation"
+query = [{ name = "kind", by = ["kind"], share = "1/16" }, { name = "detail", by = ["kind", "sex", "age"], share = "1/16" }]
+
+[[level]]
+name = "county"
+query = [{ name = "total", by = [], share = "1/16" }, { name = "kindage", by = ["kind", "age"], share = "1/16" }]
+"#;
+
+// The groups of the county, each with the next larger one.
+const GROUPS: [(&[u32], Option<u32>); 8] = [
+    (&[0, 1, 2, 3, 4, 5, 6, 7, 9, 11], None),
+    (&[0, 1, 2, 3], Some(0)),
+    (&[0, 2], Some(1)),
+    (&[1, 3], Some(1)),
+    (&[4, 5, 6, 7], Some(0)),
+    (&[4, 6], Some(4)),
+    (&[5, 7], Some(4)),
+    (&[9, 11], Some(0)),
+];
+
+#[test]
+fn tells_groups(rt: HostRuntime) -> Result<(), Fail> {
+    let schema = read_schema(rt.alloc(), PRISON.as_bytes())?;
+    assert!(rt; 1 < schema.levels());
+    let tree = tree(rt.alloc(), &schema, 1)?;
+    assert_eq!(rt; tree.len(), 8);
+    for group in 0..tree.len() {
+        let (members, next) = GROUPS[group as usize];
+        assert_eq!(rt; tree.members(group), members);
+        assert_eq!(rt; tree.next(group), next);
+    }
+    Ok(())
+}
+
+// The smallest group of a cell, None where the cell isn't possible.
+fn smallest(schema: &Schema, tree: &GroupTree, level: usize, cell: u32) -> Option<u32>
+    requires cell { cell < cell_count schema.now }
+    requires tree { IsTreeOf schema.now (level_at schema.now level) tree.now }
+{
+    if schema.possible(cell) {
+        Some(tree.smallest(cell))
+    } else {
+        None
+    }
+}
+
+// The group of a kind.
+fn of_kind(schema: &Schema, tree: &GroupTree, level: usize, kind: u16) -> u32
+    requires kind { kind < kind_count schema.now }
+    requires tree { IsTreeOf schema.now (level_at schema.now level) tree.now }
+{
+    tree.kind_group(kind)
+}
+
+// The group of a class of a query, by the place of the class among the query's classes.
+fn of_class(schema: &Schema, tree: &GroupTree, level: usize, query: usize, place: usize) -> u32
+    requires level { level < length schema.now.levels }
+    requires query { query < length (queries_at schema.now level) }
+    requires place { place < length (classes_of schema.now (query_at schema.now level query)) }
+    requires tree { IsTreeOf schema.now (level_at schema.now level) tree.now }
+{
+    tree.class_group(query, schema.classes(level, query)[place])
+}
+
+#[test]
+fn smallest_groups_of_cells(rt: HostRuntime) -> Result<(), Fail> {
+    let schema = read_schema(rt.alloc(), PRISON.as_bytes())?;
+    assert!(rt; 1 < schema.levels() && schema.cells() == 12);
+    let tree = tree(rt.alloc(), &schema, 1)?;
+    let found = (
+        smallest(&schema, &tree, 1, 8),
+        smallest(&schema, &tree, 1, 9),
+    );
+    assert_eq!(rt; found, (None, Some(7)));
+    Ok(())
+}
+
+#[test]
+fn groups_of_kinds(rt: HostRuntime) -> Result<(), Fail> {
+    let schema = read_schema(rt.alloc(), PRISON.as_bytes())?;
+    assert!(rt; 1 < schema.levels() && schema.kinds() == 3);
+    let tree = tree(rt.alloc(), &schema, 1)?;
+    let found = (of_kind(&schema, &tree, 1, 0), of_kind(&schema, &tree, 1, 1));
+    assert_eq!(rt; found, (1, 4));
+    Ok(())
+}
+
+#[test]
+fn groups_of_classes(rt: HostRuntime) -> Result<(), Fail> {
+    let schema = read_schema(rt.alloc(), PRISON.as_bytes())?;
+    assert!(rt; 1 < schema.levels());
+    assert!(rt; schema.queries(1) == 2);
+    assert!(rt; schema.classes(1, 1).len() == 5);
+    let tree = tree(rt.alloc(), &schema, 1)?;
+    assert_eq!(rt; of_class(&schema, &tree, 1, 1, 3), 6);
+    Ok(())
+}

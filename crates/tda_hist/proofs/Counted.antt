@@ -1,0 +1,55 @@
+-- The counts that are made of records.
+use Rattle.std.proofs.Common.{◌≡◌, ℕ, ◌-◌, ◌≤◌, ◌^◌, ◌&&◌, ◌==◌, List, length, sym, ap, ◌∙◌, subst, arith, sum, sum_by}
+use Rattle.std.proofs.lemmas.List.Sums.{count_by-le-length, sum-map}
+use Rattle.tda_model.specs.Bounds.{persons_limit}
+use Rattle.tda_model.specs.Schema.{Schema}
+use Rattle.tda_model.specs.Cells.{cell_count, all_cells}
+use Rattle.tda_model.specs.Spine.{Spine, is_at, blocks_of, units_at, unit_numbers, nation_of, parents_of, IsUnit, IsTree}
+use Rattle.tda_model.specs.Tables.{Tables, persons_in}
+use Rattle.tda_model.proofs.Sums.{sum_same, each_range, each_filter}
+use Rattle.tda_model.proofs.Tree.{each_under}
+use Rattle.tda_out.specs.Counts.{Counts, count_at, counts_of, AreCountsOf}
+use Rattle.tda_out.proofs.RowLemmas.{counts_are, count_of}
+use Rattle.tda_records.specs.Records.{AreRecordsOf}
+use Rattle.tda_records.specs.declared.records.Record.{Record}
+use Rattle.tda_hist.specs.TrueTable.{lives_in, true_count, totals_of, BlocksAddUp}
+use Rattle.tda_hist.specs.Tally.{tallied}
+use Rattle.tda_hist.proofs.Adding.{AreAdded, added_start}
+use Rattle.tda_hist.proofs.TrueCounts.{own_true, true_blocks, few_there, few_in_states}
+
+pub counted_limit : (sp : Spine) (records : List Record) → length records ≤ 2 ^ 26 → (u j : ℕ) → true_count sp records u j ≤ persons_limit
+counted_limit sp records few u j = omega (arith, count_by-le-length (λ r. lives_in sp u r && (r.cell == j)) records, few)
+
+module _ (s : Schema) (sp : Spine) where
+  -- sums over the cells of counts that are those of a table
+  pub same_persons : (x : Tables) (counts : Counts) → counts ≡ counts_of s sp x → (u : ℕ) → IsUnit sp u → persons_in s (count_at counts u) ≡ persons_in s (x u)
+  same_persons x counts is u here =
+      sum_same (count_at counts u) (x u) (all_cells s) (each_range _ 0 (cell_count s) (λ j low high. ap (λ c. count_at c u j) is ∙ count_of s sp x u j here (omega arith)))
+
+  module _ (t : IsTree sp (nation_of sp)) (records : List Record) (are : AreRecordsOf s sp records) (counts : Counts) where
+    pub counted_start : counts ≡ counts_of s sp (tallied (λ r. r.block) (λ r. r.cell) records) → AreAdded s sp (true_count sp records) (length (parents_of sp)) counts
+    counted_start is =
+        let own = tallied (λ r. r.block) (λ r. r.cell) records in
+        added_start s sp (true_count sp records) counts (subst (AreCountsOf s sp) (sym is) (counts_are s sp own))
+        (λ b here at j l. ap (λ c. count_at c b j) is ∙ count_of s sp own b j here l ∙ own_true sp t records s are b at j)
+
+    module _ (is : counts ≡ counts_of s sp (true_count sp records)) where
+      pub counted_blocks : BlocksAddUp s sp (count_at counts)
+      counted_blocks u here j l =
+          ap (λ c. count_at c u j) is ∙ count_of s sp (true_count sp records) u j here l
+          ∙ true_blocks sp t records s are u here j l
+          ∙ sum_same (λ b. true_count sp records b j) (λ b. count_at counts b j) (blocks_of sp u)
+          (each_under sp (nation_of sp) t (λ b. true_count sp records b j ≡ count_at counts b j) (sp.depth - 1) u
+          (λ b under. sym (ap (λ c. count_at c b j) is ∙ count_of s sp (true_count sp records) b j under.here l)))
+
+      pub counted_few : (u : ℕ) → IsUnit sp u → persons_in s (count_at counts u) ≤ length records
+      counted_few u here = omega (arith, same_persons (true_count sp records) counts is u here, few_there sp t records s are u)
+
+      pub counted_few_in_states : sum (totals_of s sp (count_at counts)) ≤ length records
+      counted_few_in_states =
+          let x = true_count sp records in
+          let same : sum_by (λ st. persons_in s (count_at counts st)) (units_at sp 1) ≡ sum_by (λ st. persons_in s (x st)) (units_at sp 1) =
+          sum_same (λ st. persons_in s (count_at counts st)) (λ st. persons_in s (x st)) (units_at sp 1)
+          (each_filter _ (is_at sp 1) (unit_numbers sp) (each_range _ 0 (length sp.units) (λ u low high at. same_persons x counts is u (omega arith)))) in
+          let few = few_in_states sp t records s are in
+          omega (arith, same, few, sum-map (λ st. persons_in s (x st)) (units_at sp 1), sum-map (λ st. persons_in s (count_at counts st)) (units_at sp 1))

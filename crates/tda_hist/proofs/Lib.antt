@@ -1,0 +1,11 @@
+pub mod CountLemmas
+pub mod Living
+pub mod ClassCells
+pub mod TallyLemmas
+pub mod TrueCounts
+pub mod Adding
+pub mod Counted
+pub mod KindCells
+pub mod Agreeing
+pub mod Distances
+pub mod Climbing

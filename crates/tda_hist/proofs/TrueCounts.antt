@@ -1,0 +1,78 @@
+-- The true table of a unit is those of its blocks together, and those of its children, and counts no more persons than there are.
+use Rattle.std.proofs.Common.{◌≡◌, ℕ, ◌+◌, ◌-◌, ◌≤◌, Bool, true, false, ◌&&◌, ◌==◌, List, [], ◌∷◌, length, sym, ap, ◌∙◌, arith, sum, sum_by}
+use Rattle.std.proofs.lemmas.List.Elements.{recursion_from_All}
+use Rattle.std.proofs.lemmas.List.Sums.{sum-map}
+use Rattle.tda_model.specs.Schema.{Query, Schema}
+use Rattle.tda_model.specs.Groups.{class_cells}
+use Rattle.tda_model.specs.Cells.{cell_count, all_cells}
+use Rattle.tda_model.specs.Spine.{Spine, level_of, children_of, blocks_of, units_at, nation_of, IsTree}
+use Rattle.tda_model.specs.Tables.{Tables, persons_in}
+use Rattle.tda_model.proofs.Sums.{Each, sum_same, each_any, each_weaker}
+use Rattle.tda_model.proofs.Tree.{each_under, under_ascends, blocks_split, over_is}
+use Rattle.tda_spine.specs.Sound.{IsInner}
+use Rattle.tda_records.specs.Records.{IsRecordOf, AreRecordsOf}
+use Rattle.tda_records.specs.declared.records.Record.{Record}
+use Rattle.tda_hist.specs.TrueTable.{lives_in, true_count, class_count, class_sum, totals_of, BlocksAddUp}
+use Rattle.tda_hist.specs.Tally.{tallied}
+use Rattle.tda_hist.proofs.CountLemmas.{one_if, turned, sums_same, at_most_one, count_by_number, count_by_number_last, one_pair, count_pairs}
+use Rattle.tda_hist.proofs.ClassCells.{class_ascends}
+use Rattle.tda_hist.proofs.Living.{holds_over, one_there}
+
+module _ (sp : Spine) (t : IsTree sp (nation_of sp)) (records : List Record) where
+  -- the records of a block itself
+  abbrev own : Tables
+  own = tallied (λ r. r.block) (λ r. r.cell) records
+
+  pub by_blocks : (u j : ℕ) → true_count sp records u j ≡ sum_by (λ b. own b j) (blocks_of sp u)
+  by_blocks u j = count_by_number (λ r. r.block) (λ r. r.cell == j) (blocks_of sp u) (under_ascends sp (nation_of sp) t (sp.depth - 1) u) records
+
+  pub true_split : (u : ℕ) → IsInner sp u → (j : ℕ) → true_count sp records u j ≡ sum_by (λ c. true_count sp records c j) (children_of sp u)
+  true_split u inner j =
+      by_blocks u j ∙ blocks_split sp (nation_of sp) t (λ b. own b j) u inner.here inner.above
+      ∙ sums_same (λ c. sum_by (λ b. own b j) (blocks_of sp c)) (λ c. true_count sp records c j) (children_of sp u) (λ c. sym (by_blocks c j))
+
+  module _ (s : Schema) (are : AreRecordsOf s sp records) where
+    each_is : Each (IsRecordOf s sp) records
+    each_is = recursion_from_All (IsRecordOf s sp) records are.each
+
+    -- in a block live those whose block it is
+    pub own_true : (b : ℕ) → level_of sp b ≡ sp.depth - 1 → (j : ℕ) → own b j ≡ true_count sp records b j
+    own_true b at j =
+        sum_same (λ r. one_if ((r.block == b) && (r.cell == j))) (λ r. one_if (lives_in sp b r && (r.cell == j))) records
+        (each_weaker (IsRecordOf s sp) (λ r. one_if ((r.block == b) && (r.cell == j)) ≡ one_if (lives_in sp b r && (r.cell == j))) records
+        (λ r is. ap (λ h. one_if (h && (r.cell == j)))
+        (turned r.block b ∙ sym (holds_over sp t b r.block is.block.here is.block.last ∙ over_is sp (nation_of sp) t b r.block 0 sp.depth is.block.here (let level : level_of sp r.block ≡ 0 + level_of sp b = omega (arith, is.block.last, at) in level) (omega arith)))) each_is)
+
+    pub true_blocks : BlocksAddUp s sp (true_count sp records)
+    true_blocks u here j within =
+        by_blocks u j
+        ∙ sum_same (λ b. own b j) (λ b. true_count sp records b j) (blocks_of sp u)
+        (each_under sp (nation_of sp) t (λ b. own b j ≡ true_count sp records b j) (sp.depth - 1) u (λ b under. own_true b under.at j))
+
+    pairs_few : (units : List ℕ) → Each (λ r. sum_by (λ u. one_if (lives_in sp u r)) units ≤ 1) records → sum_by (λ u. persons_in s (true_count sp records u)) units ≤ length records
+    pairs_few units once =
+        count_pairs (λ u r. lives_in sp u r) (λ j r. r.cell == j) units (all_cells s) records
+        (each_weaker (λ r. sum_by (λ u. one_if (lives_in sp u r)) units ≤ 1) (λ r. sum_by (λ u. sum_by (λ j. one_if (lives_in sp u r && (r.cell == j))) (all_cells s)) units ≤ 1) records
+        (λ r few. one_pair (λ u. lives_in sp u r) (λ j. r.cell == j) units (all_cells s) few (at_most_one r.cell (cell_count s))) once)
+
+    -- no unit has more persons than there are
+    pub few_there : (u : ℕ) → persons_in s (true_count sp records u) ≤ length records
+    few_there u =
+        let few = pairs_few (u ∷ []) (each_any (λ r. sum_by (λ v. one_if (lives_in sp v r)) (u ∷ []) ≤ 1) records (λ r. one (lives_in sp u r))) in
+        omega (arith, few)
+      where
+        one : (b : Bool) → 0 + one_if b ≤ 1
+        one true = omega arith
+        one false = omega arith
+
+    -- and nor have all states
+    pub few_in_states : sum (totals_of s sp (true_count sp records)) ≤ length records
+    few_in_states =
+        let few = pairs_few (units_at sp 1)
+        (each_weaker (IsRecordOf s sp) (λ r. sum_by (λ u. one_if (lives_in sp u r)) (units_at sp 1) ≤ 1) records
+        (λ r is. one_there sp t r.block 1 is.block.here is.block.last (omega (arith, t.deep))) each_is) in
+        omega (arith, few, sum-map (λ st. persons_in s (true_count sp records st)) (units_at sp 1))
+
+-- the count of a class is the sum of the true counts over its cells
+pub class_adds : (s : Schema) (sp : Spine) (q : Query) → q.only ≡ [] → (records : List Record) (u c : ℕ) → class_count s sp q records u c ≡ class_sum s q (true_count sp records u) c
+class_adds s sp q whole records u c = count_by_number_last (λ r. r.cell) (λ r. lives_in sp u r) (class_cells s q c) (class_ascends s q whole c) records

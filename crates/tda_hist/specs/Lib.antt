@@ -1,0 +1,4 @@
+pub mod TrueTable
+pub mod Tally
+pub mod Agreement
+pub mod Distance

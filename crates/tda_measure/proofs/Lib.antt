@@ -1,0 +1,5 @@
+pub mod Walking
+pub mod Outcomes
+pub mod ClassSums
+pub mod Places
+pub mod Variances

@@ -1,0 +1,9 @@
+pub mod Nested
+pub mod Rising
+pub mod Sizes
+pub mod Spots
+pub mod Indexes
+pub mod Fields
+pub mod Judging
+pub mod Gathering
+pub mod Written
