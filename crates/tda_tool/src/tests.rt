@@ -203,6 +203,93 @@ fn states_have_their_totals(rt: HostRuntime) -> Result<(), Fail> {
     Ok(())
 }
 
+// Two kinds of quarters, and a state whose first block has a dormitory.
+const DORMITORY: &str =
+    "version = 1\ntotal = \"1\"\n\n[[attribute]]\nname = \"kind\"\nvalues = [\"house\", \"dorm\"]\n\n[[level]]\nname = \"nation\"\nquery = [{ name = \"kind\", by = [\"kind\"], share = \"1/2\" }]\n\n[[level]]\nname = \"state\"\n\n[[level]]\nname = \"block\"\nquery = [{ name = \"kind\", by = [\"kind\"], share = \"1/2\" }]\n";
+
+// Two levels: the states are the blocks, and the first has a prison.
+const PRISON: &str =
+    "version = 1\ntotal = \"1\"\n\n[[attribute]]\nname = \"kind\"\nvalues = [\"house\", \"prison\"]\n\n[[level]]\nname = \"nation\"\nquery = [{ name = \"kind\", by = [\"kind\"], share = \"1\" }]\n\n[[level]]\nname = \"state\"\n";
+
+const TWO_BLOCKS: &str = "unit,level,parent\nUS,nation,\nS1,state,US\nS2,state,US\n";
+
+// With two sexes, of whom one has no dormitory: each kind's persons are in its first possible cell.
+const WOMEN: &str =
+    "version = 1\ntotal = \"1\"\nattribute = [{ name = \"kind\", values = [\"house\", \"dorm\"] }, { name = \"sex\", values = [\"f\", \"m\"] }]\nzero = [{ kind = [\"dorm\"], sex = [\"f\"] }]\nlevel = [{ name = \"nation\" }, { name = \"state\" }, { name = \"block\" }]\n";
+
+#[test]
+fn facilities_have_their_persons(rt: HostRuntime) -> Result<(), Fail> {
+    let dorm = "block,kind,count\nB1,dorm,2\n";
+    let prison = "block,kind,count\nS1,prison,1\n";
+    let table = [
+        (
+            [DORMITORY, SPINE, dorm, TOTALS],
+            "0|e=unit,cell,count\nUS,0,3\nUS,1,2\nS1,0,3\nS1,1,2\nB1,0,3\nB1,1,2\n|-=ok fit fits=3\n",
+        ),
+        (
+            [
+                DORMITORY,
+                SPINE,
+                "block,kind,count\nB2,dorm,2\n",
+                "state,total\nS1,2\n",
+            ],
+            "0|e=unit,cell,count\nUS,1,2\nS1,1,2\nB2,1,2\n|-=ok fit fits=3\n",
+        ),
+        (
+            [DORMITORY, SPINE, dorm, "state,total\nS1,1\n"],
+            "3|-=refused totals Short S1 1 2\n",
+        ),
+        (
+            [DORMITORY, SPINE, "block,kind,count\nB1,house,1\n", TOTALS],
+            "3|-=refused facilities Household 2\n",
+        ),
+        (
+            [
+                DORMITORY,
+                SPINE,
+                "block,kind,count\nB1,dorm,2\nB1,dorm,2\n",
+                TOTALS,
+            ],
+            "3|-=refused facilities Repeated 3\n",
+        ),
+        (
+            [
+                DORMITORY,
+                SPINE,
+                "block,kind,count\nB1,dorm,1048577\n",
+                TOTALS,
+            ],
+            "3|-=refused facilities BadCount 2\n",
+        ),
+        (
+            [DORMITORY, SPINE, dorm, "state,total\n"],
+            "3|-=refused totals Missing S1\n",
+        ),
+        (
+            [WOMEN, SPINE, dorm, TOTALS],
+            "0|e=unit,cell,count\nUS,0,3\nUS,3,2\nS1,0,3\nS1,3,2\nB1,0,3\nB1,3,2\n|-=ok fit fits=3\n",
+        ),
+        (
+            [PRISON, TWO_BLOCKS, prison, "state,total\nS1,50\nS2,50\n"],
+            "0|e=unit,cell,count\nUS,0,99\nUS,1,1\nS1,0,49\nS1,1,1\nS2,0,50\n|-=ok fit fits=2\n",
+        ),
+        (
+            [
+                PRISON,
+                TWO_BLOCKS,
+                prison,
+                "state,total\nS1,1073741824\nS2,1\n",
+            ],
+            "3|-=refused totals TooManyPersons\n",
+        ),
+    ];
+    for (texts, want) in table {
+        let shown = ran(rt.alloc(), WORDS, texts, 0, 0)?;
+        assert_eq!(rt; shown.as_str(), want);
+    }
+    Ok(())
+}
+
 const FAULTS: [(Plain, &str); 36] = [
     (Plain::TooLong, "TooLong"),
     (Plain::Schema(SchemaFault::BadToml), "BadToml"),
