@@ -1,6 +1,11 @@
-// Which texts are facilities and totals, which fault any other text has, and what is written.
-use super::{FacFault, TotFault, read_facilities, read_totals, write_totals};
+// Which texts are facilities and totals, which fault any other text has, what is written, and the bounds of units.
+ghost use Rattle.std.specs.Prelude.{◌<◌};
+
+use super::{
+    FacFault, Invariants, JoinFault, TotFault, join, read_facilities, read_totals, write_totals,
+};
 use std::test::Fail;
+use tda_io::PERSONS;
 use tda_schema::read_schema;
 use tda_spine::read_spine;
 
@@ -10,7 +15,7 @@ const SCHEMA: &[u8] =
 const SPINE: &[u8] =
     b"unit,level,parent\nUS,nation,\nS1,state,US\nB1,block,S1\nS2,state,US\nB2,block,S2\n";
 
-// So far the schema has the kind of households alone, so no facility is accepted.
+// With the kind of households alone no facility is accepted.
 const FACILITIES: [(&str, FacFault); 14] = [
     ("block,kind,count\nB1,house\n", FacFault::BadRow(2)),
     ("block,kind\nB1,house,1\n", FacFault::BadRow(2)),
@@ -85,6 +90,44 @@ const REFUSED: [(&str, TotFault); 26] = [
     ),
 ];
 
+const KINDS: &[u8] =
+    b"version = 1\ntotal = \"1\"\n[[attribute]]\nname = \"kind\"\nvalues = [\"house\", \"dorm\"]\n[[level]]\nname = \"nation\"\n[[level]]\nname = \"state\"\n[[level]]\nname = \"block\"\n";
+
+const BOTH: &[u8] = b"state,total\nS1,5\nS2,7\n";
+
+// Of each unit the least and the most of the persons in dormitories, where B1 has three of these.
+const DORMS: [(u64, u64); 5] = [(3, PERSONS), (3, PERSONS), (3, PERSONS), (0, 0), (0, 0)];
+
+const THREE: &[u8] = b"block,kind,count\nB1,dorm,3\n";
+
+// Facilities that need more persons than a state has.
+const SHORT: [(&str, JoinFault); 3] = [
+    (
+        "block,kind,count\nB1,dorm,6\n",
+        JoinFault::Short {
+            state: 1,
+            total: 5,
+            needed: 6,
+        },
+    ),
+    (
+        "block,kind,count\nB2,dorm,8\nB1,dorm,5\n",
+        JoinFault::Short {
+            state: 3,
+            total: 7,
+            needed: 8,
+        },
+    ),
+    (
+        "block,kind,count\nB2,dorm,9\nB1,dorm,1048576\n",
+        JoinFault::Short {
+            state: 1,
+            total: 5,
+            needed: 1048576,
+        },
+    ),
+];
+
 #[test]
 fn facilities_of_no_kind(rt: HostRuntime) -> Result<(), Fail> {
     let schema = read_schema(rt.alloc(), SCHEMA)?;
@@ -146,5 +189,59 @@ fn written_totals(rt: HostRuntime) -> Result<(), Fail> {
         out.as_slice(),
         b"before,state,total\nS1,1073741800\nS2,7\n".as_slice()
     );
+    Ok(())
+}
+
+// The least and the most of the persons of a kind in a unit.
+fn bounds(invariants: &Invariants, unit: u32, kind: u16) -> (u64, u64)
+    requires unit { unit < invariants.now.lows.units }
+    requires kind { kind < invariants.now.lows.kinds }
+{
+    (invariants.low(unit, kind), invariants.high(unit, kind))
+}
+
+#[test]
+fn bounds_of_units(rt: HostRuntime) -> Result<(), Fail> {
+    let schema = read_schema(rt.alloc(), KINDS)?;
+    let spine = read_spine(rt.alloc(), &schema, SPINE)?;
+    assert!(rt; schema.kinds() == 2 && spine.units() == 5);
+    let facilities = read_facilities(rt.alloc(), &schema, &spine, THREE)?;
+    let totals = read_totals(rt.alloc(), &spine, BOTH)?;
+    let invariants = join(rt.alloc(), &schema, &spine, facilities, totals)?;
+    for unit in 0..spine.units() {
+        let households = bounds(&invariants, unit, 0);
+        assert_eq!(rt; households, (0, PERSONS));
+        let dorms = bounds(&invariants, unit, 1);
+        assert_eq!(rt; Some(dorms), DORMS.get(unit as usize).copied());
+    }
+    Ok(())
+}
+
+#[test]
+fn totals_of_units(rt: HostRuntime) -> Result<(), Fail> {
+    let schema = read_schema(rt.alloc(), KINDS)?;
+    let spine = read_spine(rt.alloc(), &schema, SPINE)?;
+    let facilities = read_facilities(rt.alloc(), &schema, &spine, THREE)?;
+    let totals = read_totals(rt.alloc(), &spine, BOTH)?;
+    let invariants = join(rt.alloc(), &schema, &spine, facilities, totals)?;
+    let due = [None, Some(5), None, Some(7), None];
+    for unit in 0..spine.units() {
+        let total = invariants.total(unit);
+        assert_eq!(rt; Some(total), due.get(unit as usize).copied());
+    }
+    Ok(())
+}
+
+#[test]
+fn first_short_state(rt: HostRuntime) -> Result<(), Fail> {
+    let schema = read_schema(rt.alloc(), KINDS)?;
+    let spine = read_spine(rt.alloc(), &schema, SPINE)?;
+    for (text, due) in SHORT {
+        assert!(rt; text.len() < 1000);
+        let facilities = read_facilities(rt.alloc(), &schema, &spine, text.as_bytes())?;
+        let totals = read_totals(rt.alloc(), &spine, BOTH)?;
+        let fault = join(rt.alloc(), &schema, &spine, facilities, totals).err();
+        assert_eq!(rt; fault, Some(due));
+    }
     Ok(())
 }

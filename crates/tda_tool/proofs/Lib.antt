@@ -2,11 +2,10 @@ pub mod Values
 pub mod Asked
 pub mod Judged
 pub mod Stops
+pub mod Bases
 pub mod FaultUnits
 pub mod Files
 pub mod Begun
-pub mod Paths
-pub mod Ran
 pub mod Attaining
 pub mod FirstCells
 pub mod FindHomes

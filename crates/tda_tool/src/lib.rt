@@ -2,8 +2,13 @@
 #![tactic(auto)]
 
 mod answer;
+mod base;
+mod counted;
+mod fit;
 mod homes;
 mod inputs;
+mod measured;
+mod noise;
 mod output;
 mod plain;
 mod prepare;

@@ -6,8 +6,10 @@ use crate::refusal::{Named, Plain, push_named, push_plain};
 use crate::words::judge;
 use std::alloc::Global;
 use std::test::Fail;
+use tda_hist::HistFault;
 use tda_invar::{FacFault, JoinFault, TotFault};
 use tda_io::{MemFile, MemInbox, MemOutbox, OutFault, Outbox};
+use tda_records::RecFault;
 use tda_schema::{SchemaFault, read_schema};
 use tda_spine::{SpineFault, read_spine};
 
@@ -27,6 +29,10 @@ const TOTALS: &str = "state,total\nS1,5\n";
 
 const WORDS: &str = "fit --schema a --spine b --facilities c --totals d --tables e";
 
+// The words of `measure` but for the source of its words.
+const MEASURE: &str =
+    "measure --schema a --spine b --facilities c --records d --measurements m --totals t --ledger l";
+
 // The words between spaces.
 fn words_of(alloc: Global, line: &str) -> Result<Vec<String>, Fail> {
     if line.is_empty() {
@@ -39,30 +45,30 @@ fn words_of(alloc: Global, line: &str) -> Result<Vec<String>, Fail> {
     Ok(words)
 }
 
-// An inbox with a schema `a`, a spine `b`, facilities `c` and totals `d`, whose read of this number fails.
-fn inbox_of(alloc: Global, texts: [&str; 4], fail: u64) -> Result<MemInbox, Fail>
+// An inbox with these files under the names `a`, `b`, `c` and so on, whose read of this number fails.
+fn inbox_of(alloc: Global, files: &[&[u8]], fail: u64) -> Result<MemInbox, Fail>
     ensures { IfOk result (λ inbox. inbox.faults ≡ 0) }
 {
-    let mut files = Vec::new(alloc);
-    for (name, text) in ["a", "b", "c", "d"].into_iter().zip(texts) {
-        files.push(MemFile {
+    let mut held = Vec::new(alloc);
+    for (name, bytes) in ["a", "b", "c", "d", "e"].into_iter().zip(files) {
+        held.push(MemFile {
             name: String::from_str(alloc, name)?,
-            bytes: text.as_bytes().to_vec(alloc)?,
+            bytes: bytes.to_vec(alloc)?,
         })?;
     }
-    Ok(MemInbox::new(alloc, files, vec![in alloc; fail]?))
+    Ok(MemInbox::new(alloc, held, vec![in alloc; fail]?))
 }
 
 // The status, and each name that was begun with its text.
-fn ran(
+fn shown(
     alloc: Global,
     line: &str,
-    texts: [&str; 4],
+    files: &[&[u8]],
     fail_read: u64,
     fail_write: u64,
 ) -> Result<String, Fail> {
     let words = words_of(alloc, line)?;
-    let mut inbox = inbox_of(alloc, texts, fail_read)?;
+    let mut inbox = inbox_of(alloc, files, fail_read)?;
     let mut outbox = MemOutbox::new(alloc, vec![in alloc; fail_write]?);
     let status = tool(alloc, &words, &mut inbox, &mut outbox);
     let mut shown = format!(in alloc; "{status}")?;
@@ -73,6 +79,24 @@ fn ran(
         shown.push_str(std::str::from_utf8(file.bytes.as_slice()).unwrap_or("no text"))?;
     }
     Ok(shown)
+}
+
+// The same of a schema, a spine, facilities and totals.
+fn ran(
+    alloc: Global,
+    line: &str,
+    texts: [&str; 4],
+    fail_read: u64,
+    fail_write: u64,
+) -> Result<String, Fail> {
+    let [schema, spine, facilities, totals] = texts;
+    let files = [
+        schema.as_bytes(),
+        spine.as_bytes(),
+        facilities.as_bytes(),
+        totals.as_bytes(),
+    ];
+    shown(alloc, line, &files, fail_read, fail_write)
 }
 
 #[test]
@@ -290,8 +314,17 @@ fn facilities_have_their_persons(rt: HostRuntime) -> Result<(), Fail> {
     Ok(())
 }
 
-const FAULTS: [(Plain, &str); 36] = [
+const FAULTS: [(Plain, &str); 42] = [
     (Plain::TooLong, "TooLong"),
+    (Plain::BadLength, "BadLength"),
+    (Plain::Records(RecFault::BadRow(2)), "BadRow 2"),
+    (Plain::Records(RecFault::UnknownBlock(3)), "UnknownBlock 3"),
+    (Plain::Records(RecFault::UnknownValue(4)), "UnknownValue 4"),
+    (
+        Plain::Records(RecFault::ImpossibleCell(5)),
+        "ImpossibleCell 5",
+    ),
+    (Plain::Records(RecFault::NoMemory), ""),
     (Plain::Schema(SchemaFault::BadToml), "BadToml"),
     (Plain::Schema(SchemaFault::UnknownKey), "UnknownKey"),
     (Plain::Schema(SchemaFault::MissingKey), "MissingKey"),
@@ -360,15 +393,20 @@ fn a_fault_is_printed_with_its_state(rt: HostRuntime) -> Result<(), Fail> {
     let spine = read_spine(rt.alloc(), &schema, TWO_STATES.as_bytes())?;
     assert_eq!(rt; spine.units(), 5);
     let mut out = Vec::from_slice(rt.alloc(), b"refused ")?;
-    push_named(&spine, &Named::Totals(TotFault::Missing(2)), &mut out)?;
+    push_named(
+        &schema,
+        &spine,
+        &Named::Totals(TotFault::Missing(2)),
+        &mut out,
+    )?;
     out.push(b'|')?;
     let short = JoinFault::Short {
         state: 1,
         total: 1,
         needed: 1048576,
     };
-    push_named(&spine, &Named::Join(short), &mut out)?;
-    push_named(&spine, &Named::Join(JoinFault::NoMemory), &mut out)?;
+    push_named(&schema, &spine, &Named::Join(short), &mut out)?;
+    push_named(&schema, &spine, &Named::Join(JoinFault::NoMemory), &mut out)?;
     assert_eq!(rt;
         out.as_slice(),
         b"refused Missing S2|Short S1 1 1048576".as_slice()
@@ -444,6 +482,48 @@ fn words_are_a_command_and_its_pairs(rt: HostRuntime) -> Result<(), Fail> {
     for (line, want) in table {
         let words = words_of(rt.alloc(), line)?;
         assert_eq!(rt; judge(&words).is_some(), want, "at {line}");
+    }
+    Ok(())
+}
+
+#[test]
+fn noise_has_one_source(rt: HostRuntime) -> Result<(), Fail> {
+    let table = [
+        ("--words w", true),
+        ("--seed s --place 0 --budget 0", true),
+        (
+            "--budget 4294967296 --place 18446744073709551615 --seed s",
+            true,
+        ),
+        ("--seed - --place 3 --budget 3", true),
+        ("--seed a --place 5 --budget 5", true),
+        ("", false),
+        ("--seed s", false),
+        ("--seed s --place 0", false),
+        ("--seed s --budget 0", false),
+        ("--place 0 --budget 0", false),
+        ("--place 0", false),
+        ("--words w --seed s", false),
+        ("--words w --place 0", false),
+        ("--words w --place 0 --budget 0", false),
+        ("--words w --seed s --place 0 --budget 0", false),
+        ("--seed s --seed s --place 0 --budget 0", false),
+        ("--words w --words w", false),
+        ("--words ", false),
+        ("--words m", false),
+        ("--words w --number 1", false),
+        ("--seed s --place 18446744073709551616 --budget 0", false),
+        ("--seed s --place 0 --budget 4294967297", false),
+        ("--seed s --place 00 --budget 0", false),
+        ("--seed s --place +1 --budget 0", false),
+        ("--seed s --place -1 --budget 0", false),
+        ("--seed s --place 0 --budget ", false),
+    ];
+    for (source, want) in table {
+        let alloc = rt.alloc();
+        let line = format!(in alloc; "{MEASURE} {source}")?;
+        let words = words_of(alloc, line.as_str().trim_end())?;
+        assert_eq!(rt; judge(&words).is_some(), want, "at {source}");
     }
     Ok(())
 }
@@ -558,7 +638,13 @@ fn no_call_follows_one_that_failed(rt: HostRuntime) -> Result<(), Fail> {
         (2, 3),
     ];
     for (read, fail) in table {
-        let mut inbox = inbox_of(alloc, [SCHEMA, SPINE, FACILITIES, TOTALS], read)?;
+        let files = [
+            SCHEMA.as_bytes(),
+            SPINE.as_bytes(),
+            FACILITIES.as_bytes(),
+            TOTALS.as_bytes(),
+        ];
+        let mut inbox = inbox_of(alloc, &files, read)?;
         let mut outbox = Counter {
             calls: 0,
             fail,
@@ -567,6 +653,221 @@ fn no_call_follows_one_that_failed(rt: HostRuntime) -> Result<(), Fail> {
         let status = tool(alloc, &words, &mut inbox, &mut outbox);
         assert_eq!(rt; status, 5, "at {read} {fail}");
         assert_eq!(rt; outbox.calls, fail, "at {read} {fail}");
+    }
+    Ok(())
+}
+
+// One household cell, and the total of each block measured with share 1.
+const HOUSES: &str =
+    "version = 1\ntotal = \"1\"\n\n[[attribute]]\nname = \"kind\"\nvalues = [\"house\"]\n\n[[level]]\nname = \"nation\"\n\n[[level]]\nname = \"state\"\n\n[[level]]\nname = \"block\"\nquery = [{ name = \"total\", by = [], share = \"1\" }]\n";
+
+const RECORDS: &str = "block,kind\nB1,house\nB1,house\nB2,house\nB2,house\nB2,house\n";
+
+// Six words that give the noise 1, twice.
+const ONES: [u8; 48] = [
+    1, 0, 0, 0, 1, 0, 0, 0, 0, 0, 0, 0, 1, 0, 0, 0, 1, 0, 0, 0, 7, 0, 0, 0, 1, 0, 0, 0, 1, 0, 0, 0,
+    0, 0, 0, 0, 1, 0, 0, 0, 1, 0, 0, 0, 7, 0, 0, 0,
+];
+
+// Six words that give the noise -1, twice.
+const MINUS_ONES: [u8; 48] = [
+    1, 0, 0, 0, 1, 0, 0, 0, 0, 0, 0, 0, 1, 0, 0, 0, 0, 0, 0, 0, 7, 0, 0, 0, 1, 0, 0, 0, 1, 0, 0, 0,
+    0, 0, 0, 0, 1, 0, 0, 0, 0, 0, 0, 0, 7, 0, 0, 0,
+];
+
+// What `measure` on these files and words comes to.
+fn measured(
+    alloc: Global,
+    texts: [&str; 4],
+    words: &[u8],
+    fail_read: u64,
+    fail_write: u64,
+) -> Result<String, Fail> {
+    let [schema, spine, facilities, records] = texts;
+    let files = [
+        schema.as_bytes(),
+        spine.as_bytes(),
+        facilities.as_bytes(),
+        records.as_bytes(),
+        words,
+    ];
+    let line = format!(in alloc; "{MEASURE} --words e")?;
+    shown(alloc, line.as_str(), &files, fail_read, fail_write)
+}
+
+#[test]
+fn measure_adds_noise_to_true_counts(rt: HostRuntime) -> Result<(), Fail> {
+    let files = [HOUSES, SPINE, FACILITIES, RECORDS];
+    let table = [
+        (
+            files,
+            &ONES,
+            "0|m=unit,query,class,value\nB1,total,0,3\nB2,total,0,4\n|t=state,total\nS1,5\n|l=level,query,share\nblock,total,1/1\n-,spent,1/1\n-,total,1/1\n|-=ok measure places=2 spent=1/1 words=12\n",
+        ),
+        (
+            [HOUSES, SPINE, FACILITIES, "block,kind\n"],
+            &MINUS_ONES,
+            "0|m=unit,query,class,value\nB1,total,0,-1\nB2,total,0,-1\n|t=state,total\nS1,0\n|l=level,query,share\nblock,total,1/1\n-,spent,1/1\n-,total,1/1\n|-=ok measure places=2 spent=1/1 words=12\n",
+        ),
+        (
+            [
+                HOUSES,
+                SPINE,
+                FACILITIES,
+                "block,kind\n\"B2\",\"house\"\r\n",
+            ],
+            &ONES,
+            "0|m=unit,query,class,value\nB1,total,0,1\nB2,total,0,2\n|t=state,total\nS1,1\n|l=level,query,share\nblock,total,1/1\n-,spent,1/1\n-,total,1/1\n|-=ok measure places=2 spent=1/1 words=12\n",
+        ),
+        (
+            [SCHEMA, SPINE, FACILITIES, RECORDS],
+            &ONES,
+            "0|m=unit,query,class,value\n|t=state,total\nS1,5\n|l=level,query,share\n-,spent,0/1\n-,total,1/1\n|-=ok measure places=0 spent=0/1 words=0\n",
+        ),
+    ];
+    for (texts, words, want) in table {
+        let shown = measured(rt.alloc(), texts, words, 0, 0)?;
+        assert_eq!(rt; shown.as_str(), want);
+    }
+    Ok(())
+}
+
+#[test]
+fn noise_stops_at_its_place(rt: HostRuntime) -> Result<(), Fail> {
+    let files = [HOUSES, SPINE, FACILITIES, RECORDS];
+    let table = [
+        (0, "6|-=out of words B1 total 0\n"),
+        (3, "3|-=refused words BadLength\n"),
+        (4, "6|-=out of words B1 total 0\n"),
+        (24, "6|-=out of words B2 total 0\n"),
+        (44, "6|-=out of words B2 total 0\n"),
+        (47, "3|-=refused words BadLength\n"),
+    ];
+    for (length, want) in table {
+        let shown = measured(rt.alloc(), files, &ONES[..length], 0, 0)?;
+        assert_eq!(rt; shown.as_str(), want, "at {length}");
+    }
+    Ok(())
+}
+
+#[test]
+fn records_go_with_the_facilities(rt: HostRuntime) -> Result<(), Fail> {
+    let dorm = "block,kind,count\nB1,dorm,2\n";
+    let table = [
+        (
+            [
+                DORMITORY,
+                SPINE,
+                dorm,
+                "block,kind\nB1,dorm\nB1,dorm\nB2,dorm\n",
+            ],
+            "3|-=refused records NoFacility B2 dorm\n",
+        ),
+        (
+            [DORMITORY, SPINE, dorm, "block,kind\nB1,dorm\n"],
+            "3|-=refused records Short B1 dorm 1 2\n",
+        ),
+        (
+            [DORMITORY, SPINE, dorm, "block,kind\nB1,dorm\nB2,tent\n"],
+            "3|-=refused records UnknownValue 3\n",
+        ),
+        (
+            [DORMITORY, SPINE, dorm, "block,kind\nS1,house\n"],
+            "3|-=refused records UnknownBlock 2\n",
+        ),
+        (
+            [DORMITORY, SPINE, dorm, "block,kind\nB1\n"],
+            "3|-=refused records BadRow 2\n",
+        ),
+        (
+            [DORMITORY, SPINE, dorm, ""],
+            "3|-=refused records BadHeader 1\n",
+        ),
+        (
+            [WOMEN, SPINE, dorm, "block,kind,sex\nB1,dorm,f\n"],
+            "3|-=refused records ImpossibleCell 2\n",
+        ),
+        (
+            [DORMITORY, SPINE, dorm, "block,kind\nB1,dorm\nB1,dorm\n"],
+            "6|-=out of words US kind 0\n",
+        ),
+        (
+            [HOUSES, CHILDLESS, dorm, ""],
+            "3|-=refused spine Childless 3\n",
+        ),
+    ];
+    for (texts, want) in table {
+        let shown = measured(rt.alloc(), texts, &[], 0, 0)?;
+        assert_eq!(rt; shown.as_str(), want);
+    }
+    Ok(())
+}
+
+// A seed of so many zero bytes, from a place on with a budget.
+fn seeded(alloc: Global, length: usize, place: u64, budget: u64) -> Result<String, Fail> {
+    let seed = [0; 33];
+    let files = [
+        HOUSES.as_bytes(),
+        SPINE.as_bytes(),
+        FACILITIES.as_bytes(),
+        RECORDS.as_bytes(),
+        &seed[..length],
+    ];
+    let line = format!(in alloc; "{MEASURE} --seed e --place {place} --budget {budget}")?;
+    shown(alloc, line.as_str(), &files, 0, 0)
+}
+
+#[test]
+fn a_seed_has_32_bytes(rt: HostRuntime) -> Result<(), Fail> {
+    let table = [
+        (33, 0, 9, "3|-=refused seed TooLong\n"),
+        (31, 0, 9, "3|-=refused seed BadLength\n"),
+        (0, 0, 9, "3|-=refused seed BadLength\n"),
+        (32, 0, 0, "6|-=out of words B1 total 0\n"),
+        (32, u64::MAX, 1, "6|-=out of words B1 total 0\n"),
+    ];
+    for (length, place, budget, want) in table {
+        let shown = seeded(rt.alloc(), length, place, budget)?;
+        assert_eq!(rt; shown.as_str(), want, "at {length} {place} {budget}");
+    }
+    let full = seeded(rt.alloc(), 32, 18446744073709551615, 4294967296)?;
+    assert!(rt;
+        full.as_str()
+            .starts_with("0|m=unit,query,class,value\nB1,total,0,")
+    );
+    Ok(())
+}
+
+#[test]
+fn each_failing_call_of_measure_has_its_status(rt: HostRuntime) -> Result<(), Fail> {
+    let files = [HOUSES, SPINE, FACILITIES, RECORDS];
+    let table = [
+        (1, 0, "4|-=read schema\n"),
+        (2, 0, "4|-=read spine\n"),
+        (3, 0, "4|-=read facilities\n"),
+        (4, 0, "4|-=read records\n"),
+        (5, 0, "4|-=read words\n"),
+        (0, 1, "5"),
+        (
+            0,
+            3,
+            "5|m=unit,query,class,value\nB1,total,0,3\nB2,total,0,4\n",
+        ),
+        (
+            0,
+            4,
+            "5|m=unit,query,class,value\nB1,total,0,3\nB2,total,0,4\n",
+        ),
+        (
+            0,
+            10,
+            "5|m=unit,query,class,value\nB1,total,0,3\nB2,total,0,4\n|t=state,total\nS1,5\n|l=level,query,share\nblock,total,1/1\n-,spent,1/1\n-,total,1/1\n",
+        ),
+        (5, 1, "5"),
+    ];
+    for (read, write, want) in table {
+        let shown = measured(rt.alloc(), files, &ONES, read, write)?;
+        assert_eq!(rt; shown.as_str(), want, "at {read} {write}");
     }
     Ok(())
 }
