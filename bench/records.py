@@ -6,13 +6,11 @@ Prints for each number of records the nanoseconds of one record, those of the cs
 size, which is at most 4.6 for four times as many, and the peak memory that a reading adds, beside the bytes of the file and
 8 for each record.  Usage: bench/records.py
 """
-import os
 import pathlib
-import random
-import subprocess
 import sys
 import tempfile
 
+import release
 from made import build
 
 SIZES = [100_000, 400_000, 1_600_000]
@@ -130,46 +128,13 @@ fn main(rt: HostRuntime) -> io::Result<()> {
 '''
 
 
-def write_schema(folder):
-    text = ['version = 1\ntotal = "1"\n']
-    for name, values in ATTRIBUTES.items():
-        listed = ", ".join(f'"{value}"' for value in values)
-        text.append(f'[[attribute]]\nname = "{name}"\nvalues = [{listed}]\n')
-    for level in ["nation", "state", "block"]:
-        text.append(f'[[level]]\nname = "{level}"\n')
-    (folder / "schema.toml").write_text("\n".join(text))
-
-
-def write_spine(folder):
-    rows = ["unit,level,parent", "US,nation,"]
-    for state in range(STATES):
-        rows.append(f"S{state},state,US")
-        rows += [f"S{state}B{block},block,S{state}" for block in range(BLOCKS)]
-    (folder / "spine.csv").write_text("\n".join(rows) + "\n")
-
-
-def write_records(folder, count):
-    """Records of random blocks and values, and how many bytes they are."""
-    draw = random.Random(count)
-    rows = [",".join(["block", *ATTRIBUTES])]
-    for _ in range(count):
-        block = f"S{draw.randrange(STATES)}B{draw.randrange(BLOCKS)}"
-        rows.append(",".join([block, *(draw.choice(values) for values in ATTRIBUTES.values())]))
-    text = "\n".join(rows) + "\n"
-    (folder / "records.csv").write_text(text)
-    return len(text)
-
-
 def run(program, folder, what, times, due):
     """The processor's seconds and the peak memory in bytes of one run."""
-    files = [str(folder / name) for name in ["schema.toml", "spine.csv", "records.csv"]]
-    child = subprocess.Popen([program, what, str(times), *files], stdout=subprocess.PIPE, text=True)
-    said = child.stdout.read().strip()
-    _, status, usage = os.wait4(child.pid, 0)
-    child.returncode = os.waitstatus_to_exitcode(status)
-    if child.returncode != 0 or said != str(due):
-        sys.exit(f"{what}, {times} times: status {child.returncode}, {said}")
-    return usage.ru_utime + usage.ru_stime, usage.ru_maxrss * 1024
+    files = [folder / name for name in ["schema.toml", "spine.csv", "records.csv"]]
+    seconds, peak, status, said = release.run([program, what, times, *files])
+    if status != 0 or said != str(due):
+        sys.exit(f"{what}, {times} times: status {status}, {said}")
+    return seconds, peak
 
 
 def measured(program, folder, what, count, each):
@@ -184,12 +149,12 @@ def main():
         folder = pathlib.Path(name)
         uses = ["tda_records", "tda_spine", "tda_schema", "tda_io", "csv"]
         program = build(folder, "bench_records", uses, PROGRAM)
-        write_schema(folder)
-        write_spine(folder)
+        release.write_schema(folder, ATTRIBUTES)
+        release.write_spine(folder, STATES, BLOCKS)
         print(f"{'records':>9} {'ns each':>8} {'csv':>6} {'ratio':>6} {'MB added':>9} {'file':>6} {'8 each':>7}")
         former, good = None, True
         for count in SIZES:
-            size = write_records(folder, count)
+            size = release.write_records(folder, ATTRIBUTES, STATES, BLOCKS, count)
             seconds, peak = measured(program, folder, "records", count, count)
             rows, _ = measured(program, folder, "rows", count, count + 1)
             ratio = "" if former is None else f"{seconds / former:.2f}"

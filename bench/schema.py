@@ -3,17 +3,18 @@
 
 The schemas have seven levels of eight queries, each finer than the one before, and up to 4,096 cells; the spines go up to
 131,072 units.  A program reads the same file again and again; it is made, proved and built in a temporary folder outside
-the repository.  Prints for each size the milliseconds of one reading and the ratio to the former size, which is at most
-2.4 for twice the size.
+the repository.  Prints for each size the milliseconds of one reading, the ratio to the former size, which is at most
+2.4 for twice the size, and that to the first one, which is at most 4.8 for four times the size.
 Usage: bench/schema.py
 """
-import os
+import math
 import pathlib
-import subprocess
 import sys
 import tempfile
 
+import release
 from made import build
+from release import quoted
 
 CELLS = [1_024, 2_048, 4_096]
 UNITS = [32_768, 65_536, 131_072]
@@ -116,10 +117,6 @@ QUERIES = [[], ["a"], ["a", "half-b"], ["a", "b"], ["a", "b", "half-c"], ["a", "
 LEVELS = ["nation", "state", "county", "tract", "group", "part", "block"]
 
 
-def quoted(texts):
-    return "[" + ", ".join(f'"{text}"' for text in texts) + "]"
-
-
 def schema_of(cells):
     """A schema of so many cells, and how many groups its levels have in all."""
     sizes = {"a": 8, "b": 8, "c": 8, "d": cells // 512}
@@ -149,31 +146,34 @@ def spine_of(units):
 
 def run(program, folder, what, times, due):
     """The processor's seconds of one run."""
-    files = [str(folder / name) for name in ["schema.toml", "spine.csv"]]
-    child = subprocess.Popen([program, what, str(times), *files], stdout=subprocess.PIPE, text=True)
-    said = child.stdout.read().strip()
-    _, status, usage = os.wait4(child.pid, 0)
-    child.returncode = os.waitstatus_to_exitcode(status)
-    if child.returncode != 0 or said != str(times * due):
-        sys.exit(f"{what}, {times} times: status {child.returncode}, {said} in place of {times * due}")
-    return usage.ru_utime + usage.ru_stime
+    files = [folder / name for name in ["schema.toml", "spine.csv"]]
+    seconds, _, status, said = release.run([program, what, times, *files])
+    if status != 0 or said != str(times * due):
+        sys.exit(f"{what}, {times} times: status {status}, {said} in place of {times * due}")
+    return seconds
 
 
-def measured(program, folder, what, due):
-    """The seconds of reading once, by the best of some rounds."""
-    best = {n: min(run(program, folder, what, n, due) for _ in range(ROUNDS)) for n in [0, TIMES[what]]}
-    return (best[TIMES[what]] - best[0]) / TIMES[what]
+def best_times(program, folder, what, sizes, write):
+    """For each size the seconds of reading once, by the best of some rounds. Each round goes through all sizes, so that
+    a time in which the machine is busy falls on each of them alike."""
+    times = TIMES[what]
+    best = {}
+    for _ in range(ROUNDS):
+        for size in sizes:
+            due = write(folder, size)
+            for n in [0, times]:
+                best[size, n] = min(best.get((size, n), math.inf), run(program, folder, what, n, due))
+    return [(best[size, times] - best[size, 0]) / times for size in sizes]
 
 
 def print_sizes(program, folder, what, sizes, write):
     """Prints the milliseconds of each size, and whether all are within their limits."""
-    print(f"{what:>8} {'ms':>8} {'ratio':>6}")
-    former, good = None, True
-    for size in sizes:
-        seconds = measured(program, folder, what, write(folder, size))
-        ratio = "" if former is None else f"{seconds / former:.2f}"
-        good = good and seconds <= MOST_SECONDS and (former is None or seconds / former <= MOST_RATIO)
-        print(f"{size:>8} {seconds * 1e3:>8.2f} {ratio:>6}")
+    print(f"{what:>8} {'ms':>8} {'ratio':>6} {'to first':>8}")
+    times = best_times(program, folder, what, sizes, write)
+    former, good = times[0], True
+    for size, seconds in zip(sizes, times):
+        good = good and seconds <= MOST_SECONDS and seconds <= MOST_RATIO * former and seconds <= 2 * MOST_RATIO * times[0]
+        print(f"{size:>8} {seconds * 1e3:>8.2f} {seconds / former:>6.2f} {seconds / times[0]:>8.2f}")
         former = seconds
     return good
 

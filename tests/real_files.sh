@@ -33,11 +33,33 @@ fit() {
   "$tda" fit --schema "$1" --spine "$2" --facilities "$3" --totals "$4" --tables "$5"
 }
 
+# measure RECORDS WORDS MEASUREMENTS: over the small example, with the other outputs in the folder
+measure() {
+  "$tda" measure --schema "$data/schema.toml" --spine "$data/spine.csv" --facilities "$data/facilities.csv" \
+    --records "$1" --words "$2" --measurements "$3" --totals "$folder/totals.csv" --ledger "$folder/ledger.csv"
+}
+
+# seeded PLACE MEASUREMENTS: the same with the words of a seed
+seeded() {
+  "$tda" measure --schema "$data/schema.toml" --spine "$data/spine.csv" --facilities "$data/facilities.csv" \
+    --records "$data/records.csv" --seed "$data/seed" --place "$1" --budget 1000000 \
+    --measurements "$2" --totals "$folder/totals.csv" --ledger "$folder/ledger.csv"
+}
+
+# The status of a measuring by a seed, and its report without the number of words that were taken.
+seeded_without_words() {
+  report=$(seeded "$@") || return
+  echo "${report% words=*}"
+}
+
 fit_to_full_device() {
   fit "$data/schema.toml" "$data/spine.csv" "$data/facilities.csv" "$data/totals.csv" "$folder/other.csv" >/dev/full
 }
 
 printf '%3000s' x >"$folder/tables.csv"
+: >"$folder/empty"
+printf 'odd' >"$folder/odd"
+printf 'state,total\nNorth,1\nSouth,5\n' >"$folder/short.csv"
 try "a release, over a longer file" 0 "ok fit fits=11" fit "$data/schema.toml" "$data/spine.csv" "$data/facilities.csv" "$data/totals.csv" "$folder/tables.csv"
 try "its tables" 0 "unit,cell,count
 US,0,460
@@ -69,6 +91,27 @@ try "a missing file after a refused one" 3 "refused schema BadToml" fit "$data/s
 try "nothing but the report was begun" 1 - test -e "$folder/new.csv"
 try "an output in a folder that isn't there" 5 - fit "$data/schema.toml" "$data/spine.csv" "$data/facilities.csv" "$data/totals.csv" "$folder/none/tables.csv"
 try "a folder in place of an output" 5 - fit "$data/schema.toml" "$data/spine.csv" "$data/facilities.csv" "$data/totals.csv" "$folder"
+
+# The schema measures 6 places of the nation, 4 of each state and 5 of each block; its shares together are 1.
+try "a measuring by a seed" 0 "ok measure places=44 spent=1/1" seeded_without_words 0 "$folder/measurements.csv"
+try "its rows" 0 45 awk 'END { print NR }' "$folder/measurements.csv"
+try "its totals" 0 "state,total
+North,7
+South,5" cat "$folder/totals.csv"
+try "totals that don't suffice for the facilities" 3 "refused totals Short North 1 3" fit "$data/schema.toml" "$data/spine.csv" "$data/facilities.csv" "$folder/short.csv" "$folder/new.csv"
+try "the measured totals make a release" 0 "ok fit fits=11" fit "$data/schema.toml" "$data/spine.csv" "$data/facilities.csv" "$folder/totals.csv" "$folder/measured_tables.csv"
+try "the same words again" 0 "ok measure places=44 spent=1/1" seeded_without_words 0 "$folder/again.csv"
+try "give the same noise" 0 - cmp "$folder/measurements.csv" "$folder/again.csv"
+try "other words" 0 "ok measure places=44 spent=1/1" seeded_without_words 1000000 "$folder/others.csv"
+try "give other noise" 1 - cmp -s "$folder/measurements.csv" "$folder/others.csv"
+try "a file without words" 6 "out of words US kind 0" measure "$data/records.csv" "$folder/empty" "$folder/new.csv"
+try "words that aren't whole" 3 "refused words BadLength" measure "$data/records.csv" "$folder/odd" "$folder/new.csv"
+try "a missing seed" 4 "read seed" "$tda" measure --schema "$data/schema.toml" --spine "$data/spine.csv" --facilities "$data/facilities.csv" --records "$data/records.csv" --seed "$folder/none" --place 0 --budget 9 --measurements "$folder/new.csv" --totals "$folder/totals.csv" --ledger "$folder/ledger.csv"
+try "a seed that is too long" 3 "refused seed TooLong" "$tda" measure --schema "$data/schema.toml" --spine "$data/spine.csv" --facilities "$data/facilities.csv" --records "$data/records.csv" --seed "$data/schema.toml" --place 0 --budget 9 --measurements "$folder/new.csv" --totals "$folder/totals.csv" --ledger "$folder/ledger.csv"
+try "missing records" 4 "read records" measure "$folder/none" "$folder/empty" "$folder/new.csv"
+try "records that aren't" 3 "refused records BadHeader 1" measure "$data/spine.csv" "$folder/empty" "$folder/new.csv"
+try "nothing of them was begun" 1 - test -e "$folder/new.csv"
+try "measurements in a folder that isn't there" 5 - seeded 0 "$folder/none/measurements.csv"
 
 cp "$data/schema.toml" "$folder/closed" && chmod 000 "$folder/closed"
 if cat "$folder/closed" >/dev/null 2>&1; then

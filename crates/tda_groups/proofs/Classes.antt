@@ -75,7 +75,7 @@ module _ (s : Schema) (q : Query) (over_all : q.only ≡ []) where
   abbrev possible : List ℕ
   possible = possible_cells s
 
-  scope_is : scope_cells s q ≡ possible
+  pub scope_is : scope_cells s q ≡ possible
   scope_is = ap (λ o. filter (is_listed s o) possible) over_all ∙ filter_all (is_listed s []) possible (each_any (λ x. is_listed s [] x ≡ true) possible (λ x. refl))
 
   class_is : (j : ℕ) → class_cells s q j ≡ filter (one_class s q j) possible
@@ -113,9 +113,13 @@ module _ (s : Schema) (q : Query) (over_all : q.only ≡ []) where
   pub names_class : (j : ℕ) → Contains possible j → Names (class_of s q j)
   names_class j can = (member_possible j (class_of s q j) (has_name j can), ap (λ xs. get_or xs 0 0) (sym (name_class j can)))
 
+  named_over_all : (c : ℕ) → named_cells s q c ≡ filter (λ j. class_of s q j == c) possible
+  named_over_all c = ap (filter (λ j. class_of s q j == c)) scope_is
+
   pub named_is : (c : ℕ) → Names c → named_cells s q c ≡ class_cells s q c
   named_is c names =
-      filter_same (λ j. class_of s q j == c) (one_class s q c) possible (λ j can.
+      named_over_all c
+      ∙ filter_same (λ j. class_of s q j == c) (one_class s q c) possible (λ j can.
       same_test (class_of s q j == c) (one_class s q c j)
       (λ h. member_alike c j (subst (λ xs. Contains xs j) (name_class j can ∙ ap (class_cells s q) (eqb-true (class_of s q j) c h)) (has_itself j can)))
       (λ h. eq-eqb (class_of s q j) c (ap (λ xs. get_or xs 0 0) (sym (same_class c j h)) ∙ names.1)))
@@ -141,13 +145,14 @@ module _ (s : Schema) (q : Query) (over_all : q.only ≡ []) where
   -- ---- the sets with a cell are the classes
 
   pub named_rises : (c : ℕ) → IsStrictlyIncreasing (named_cells s q c)
-  named_rises c = IsStrictlyIncreasing-filter (λ j. class_of s q j == c) possible (possible_rises s)
+  named_rises c = rw named_over_all (IsStrictlyIncreasing-filter (λ j. class_of s q j == c) possible (possible_rises s))
 
   pub set_is_class : (xs : List ℕ) → Contains (class_sets s q) xs → 1 ≤ length xs → Contains (map (class_cells s q) (classes_of s q)) xs
   set_is_class xs found some =
       let source = map_source (named_cells s q) (all_cells s) xs found in
       let c = source.0 in
-      let there : Contains (named_cells s q c) (get_or xs 0 0) = subst (λ ys. Contains ys (get_or xs 0 0)) (sym source.2) (Contains-get_or xs 0 0 some) in
+      let there : Contains (filter (λ i. class_of s q i == c) possible) (get_or xs 0 0) =
+      subst (λ ys. Contains ys (get_or xs 0 0)) (sym source.2 ∙ named_over_all c) (Contains-get_or xs 0 0 some) in
       let j = get_or xs 0 0 in
       let can = Contains-unfiltered (λ i. class_of s q i == c) possible j there in
       let is = eqb-true (class_of s q j) c (filter_holds (λ i. class_of s q i == c) possible j there) in

@@ -3,12 +3,12 @@ use Rattle.std.specs.Prelude.{ℕ, List, [], ◌∷◌, ◌++◌, ◌==◌, map,
 use Rattle.std.specs.List.{flat_map, range_with_len}
 use Rattle.tda_model.specs.Schema.{Query, Level, Schema}
 use Rattle.tda_model.specs.Cells.{all_cells, possible_cells}
-use Rattle.tda_model.specs.Groups.{kind_cells, kind_count}
+use Rattle.tda_model.specs.Groups.{scope_cells, kind_cells, kind_count}
 use Rattle.tda_schema.specs.Stated.{class_of}
 
--- the cells of the class that is named by a cell: none where it names no class
+-- the cells of a query's scope whose class is named by a cell: none where it names no class
 abbrev pub named_cells : Schema → Query → ℕ → List ℕ
-named_cells s q cell = filter (λ j. class_of s q j == cell) (possible_cells s)
+named_cells s q cell = filter (λ j. class_of s q j == cell) (scope_cells s q)
 
 abbrev pub kind_sets : Schema → List (List ℕ)
 kind_sets s = map (kind_cells s) (range_with_len 0 (kind_count s))

@@ -23,6 +23,11 @@ class_at t query cell = slice_index_or (slice_index_or t.classes query []) cell 
 abbrev pub place_in : List (List ℕ) → List ℕ → Option ℕ
 place_in groups xs = position (bytes_eq xs) groups
 
+-- the group of this number has these cells
+pub record IsGroupAt (t : Tree) (g : ℕ) (cells : List ℕ) : Type 0 where
+  pub here : g < length t.groups
+  pub members : group_at t.groups g ≡ cells
+
 -- the tree of a level: its groups are the level's, each once and in order, and each kind and class has the number of its own
 pub record IsTreeOf (s : Schema) (l : Level) (t : Tree) : Type 0 where
   pub groups : AreGroups t.groups

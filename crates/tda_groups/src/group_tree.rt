@@ -1,13 +1,14 @@
 // The tree of a level's groups.
-ghost use Rattle.std.specs.Prelude.{◌≡◌, ◌<◌, ◌≤◌, ◌∷◌, ◌++◌, [], Some, length, map, All, Contains, IfOk, IsSome, MatchOption};
+ghost use Rattle.std.specs.Prelude.{◌≡◌, ◌<◌, ◌≤◌, ◌∷◌, ◌++◌, [], Some, length, map, slice_get, All, Contains, IfOk, IsSome, MatchOption};
 ghost use Rattle.std.specs.List.{range_with_len};
 ghost use Rattle.tda_schema.specs.Stated.{level_at, queries_at, query_at};
 ghost use Rattle.tda_model.specs.Cells.{all_cells};
-ghost use Rattle.tda_model.specs.Groups.{kind_cells, kind_count};
+ghost use Rattle.tda_model.specs.Schema as model;
+ghost use Rattle.tda_model.specs.Groups.{kind_cells, kind_count, class_cells, classes_of};
 ghost use Rattle.tda_groups.specs.Sources.{named_cells, class_sets};
 ghost use Rattle.tda_groups.specs.Order.{AreGroups, IsSmallest, IsNext, IsCellSet, group_at};
 ghost use Rattle.std.specs.List.Sorted.{IsStrictlyIncreasing};
-ghost use Rattle.tda_groups.specs.Tree.{kind_at, class_at, place_in, IsTreeOf};
+ghost use Rattle.tda_groups.specs.Tree.{kind_at, class_at, place_in, IsGroupAt, IsTreeOf};
 
 use crate::cell_set::CellSet;
 use crate::chains::Chains;
@@ -126,18 +127,21 @@ impl GroupTree {
         self.chains.members(group)
     }
 
-    /// The group of the possible cells of a kind.
+    /// The group of the possible cells of a kind. In the tree of a level of a schema each kind of the schema has one.
     pub fn kind_group(&self, kind: u16) -> u32
         requires { IsSome (kind_at self.now kind) }
-        ensures { kind_at self.now kind ≡ Some result }
+        ensures value { kind_at self.now kind ≡ Some result }
+        ensures cells { (s : model.Schema) (l : model.Level) → IsTreeOf s l self.now → kind < kind_count s → IsGroupAt self.now result (kind_cells s kind) }
     {
         self.kinds[usize::from(kind)].unwrap()
     }
 
-    /// The group of a class of a query, which is named by its first possible cell.
+    /// The group of a class of a query, which is named by its first possible cell. In the tree of a level each class of
+    /// each of its queries has one.
     pub fn class_group(&self, query: usize, class: u32) -> u32
         requires { IsSome (class_at self.now query class) }
-        ensures { class_at self.now query class ≡ Some result }
+        ensures value { class_at self.now query class ≡ Some result }
+        ensures cells { (s : model.Schema) (l : model.Level) (q : model.Query) → IsTreeOf s l self.now → slice_get l.queries query ≡ Some q → Contains (classes_of s q) class → IsGroupAt self.now result (class_cells s q class) }
     {
         self.classes[query][class as usize].unwrap()
     }

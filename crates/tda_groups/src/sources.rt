@@ -49,7 +49,7 @@ pub(crate) fn kind_sets(alloc: Global, schema: &Schema) -> Result<Vec<CellSet>, 
     Ok(sets)
 }
 
-/// For each cell the class of a query that is named by it, and no cells where none is.
+/// For each cell the class of a query over all possible cells that is named by it, and no cells where none is.
 pub(crate) fn class_sets(
     alloc: Global,
     schema: &Schema,
@@ -58,6 +58,7 @@ pub(crate) fn class_sets(
 ) -> Result<Vec<CellSet>, NoMemory>
     requires level { level < length schema.now.levels }
     requires query { query < length (queries_at schema.now level) }
+    requires over_all { (query_at schema.now level query).only ≡ [] }
     ensures { IfOk result (λ sets. sets.items ≡ class_sets schema.now (query_at schema.now level query)) }
 {
     let mut sets = empty_sets(alloc, schema.cells() as usize)?;

@@ -54,7 +54,7 @@ module _ (s : Schema) (sp : Spine) (t : IsTree sp (nation_of sp)) (q : Query) (w
   counts_once : (r : Record) → IsRecordOf s sp r → sum_by (λ u. sum_by (λ c. one_if (counts_there u c r)) (classes_of s q)) (units_at sp level) ≤ 1
   counts_once r is =
       one_pair (λ u. lives_in sp u r) (λ c. holds (class_cells s q c) r.cell) (units_at sp level) (classes_of s q)
-      (one_there sp t r.block level is.block.here is.block.last within) (one_class_there s q whole r.cell is.possible)
+      (let one = one_there sp t r.block level is.block.here is.block.last within in omega (arith, one)) (one_class_there s q whole r.cell is.possible)
 
   module _ (records : List Record) (are : AreRecordsOf s sp records) where
     count_total : sum_by (λ u. sum_by (class_count s sp q records u) (classes_of s q)) (units_at sp level) ≤ length records

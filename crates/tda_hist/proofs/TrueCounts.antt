@@ -1,22 +1,23 @@
--- The true table of a unit is those of its blocks together, and those of its children, and counts no more persons than there are.
-use Rattle.std.proofs.Common.{◌≡◌, ℕ, ◌+◌, ◌-◌, ◌≤◌, Bool, true, false, ◌&&◌, ◌==◌, List, [], ◌∷◌, length, sym, ap, ◌∙◌, arith, sum, sum_by}
+-- The true table of a unit is those of its blocks together, and those of its children, and counts each person who lives there once.
+use Rattle.std.proofs.Common.{◌≡◌, ℕ, ◌+◌, ◌-◌, ◌<◌, Bool, true, false, ◌&&◌, ◌==◌, List, [], length, refl, sym, ap, ◌∙◌, arith, sum_by, count_by}
 use Rattle.std.proofs.lemmas.List.Elements.{recursion_from_All}
-use Rattle.std.proofs.lemmas.List.Sums.{sum-map}
 use Rattle.tda_model.specs.Schema.{Query, Schema}
 use Rattle.tda_model.specs.Groups.{class_cells}
 use Rattle.tda_model.specs.Cells.{cell_count, all_cells}
 use Rattle.tda_model.specs.Spine.{Spine, level_of, children_of, blocks_of, units_at, nation_of, IsTree}
 use Rattle.tda_model.specs.Tables.{Tables, persons_in}
-use Rattle.tda_model.proofs.Sums.{Each, sum_same, each_any, each_weaker}
+use Rattle.tda_model.proofs.Sums.{Each, sum_same, sum_swap, each_weaker, range_ascends}
 use Rattle.tda_model.proofs.Tree.{each_under, under_ascends, blocks_split, over_is}
 use Rattle.tda_spine.specs.Sound.{IsInner}
+use Rattle.tda_schema.specs.Parts.{holds}
+use Rattle.tda_schema.proofs.WholeLemmas.{cell_of_possible}
 use Rattle.tda_records.specs.Records.{IsRecordOf, AreRecordsOf}
 use Rattle.tda_records.specs.declared.records.Record.{Record}
-use Rattle.tda_hist.specs.TrueTable.{lives_in, true_count, class_count, class_sum, totals_of, BlocksAddUp}
+use Rattle.tda_hist.specs.TrueTable.{lives_in, true_count, class_count, class_sum, persons_at, BlocksAddUp}
 use Rattle.tda_hist.specs.Tally.{tallied}
-use Rattle.tda_hist.proofs.CountLemmas.{one_if, turned, sums_same, at_most_one, count_by_number, count_by_number_last, one_pair, count_pairs}
+use Rattle.tda_hist.proofs.CountLemmas.{one_if, turned, sums_same, sum_ones, count_by_number, count_by_number_last}
 use Rattle.tda_hist.proofs.ClassCells.{class_ascends}
-use Rattle.tda_hist.proofs.Living.{holds_over, one_there}
+use Rattle.tda_hist.proofs.Living.{holds_range, holds_over, one_there, lives_in_nation}
 
 module _ (sp : Spine) (t : IsTree sp (nation_of sp)) (records : List Record) where
   -- the records of a block itself
@@ -49,29 +50,36 @@ module _ (sp : Spine) (t : IsTree sp (nation_of sp)) (records : List Record) whe
         ∙ sum_same (λ b. own b j) (λ b. true_count sp records b j) (blocks_of sp u)
         (each_under sp (nation_of sp) t (λ b. own b j ≡ true_count sp records b j) (sp.depth - 1) u (λ b under. own_true b under.at j))
 
-    pairs_few : (units : List ℕ) → Each (λ r. sum_by (λ u. one_if (lives_in sp u r)) units ≤ 1) records → sum_by (λ u. persons_in s (true_count sp records u)) units ≤ length records
-    pairs_few units once =
-        count_pairs (λ u r. lives_in sp u r) (λ j r. r.cell == j) units (all_cells s) records
-        (each_weaker (λ r. sum_by (λ u. one_if (lives_in sp u r)) units ≤ 1) (λ r. sum_by (λ u. sum_by (λ j. one_if (lives_in sp u r && (r.cell == j))) (all_cells s)) units ≤ 1) records
-        (λ r few. one_pair (λ u. lives_in sp u r) (λ j. r.cell == j) units (all_cells s) few (at_most_one r.cell (cell_count s))) once)
-
-    -- no unit has more persons than there are
-    pub few_there : (u : ℕ) → persons_in s (true_count sp records u) ≤ length records
-    few_there u =
-        let few = pairs_few (u ∷ []) (each_any (λ r. sum_by (λ v. one_if (lives_in sp v r)) (u ∷ []) ≤ 1) records (λ r. one (lives_in sp u r))) in
-        omega (arith, few)
+    -- each person of a unit counts in one cell
+    pub persons_are : (u : ℕ) → persons_in s (true_count sp records u) ≡ count_by (lives_in sp u) records
+    persons_are u =
+        sym (count_by_number_last (λ r. r.cell) (lives_in sp u) (all_cells s) (range_ascends 0 (cell_count s)) records)
+        ∙ sum_same (λ r. one_if (lives_in sp u r && holds (all_cells s) r.cell)) (λ r. one_if (lives_in sp u r)) records
+        (each_weaker (IsRecordOf s sp) (λ r. one_if (lives_in sp u r && holds (all_cells s) r.cell) ≡ one_if (lives_in sp u r)) records
+        (λ r is. counted (lives_in sp u r) (holds (all_cells s) r.cell) (holds_range 0 (cell_count s) r.cell (omega arith) (omega (arith, cell_of_possible s r.cell is.possible)))) each_is)
       where
-        one : (b : Bool) → 0 + one_if b ≤ 1
-        one true = omega arith
-        one false = omega arith
+        counted : (b h : Bool) → h ≡ true → one_if (b && h) ≡ one_if b
+        counted true h is = ap one_if is
+        counted false h is = refl
 
-    -- and nor have all states
-    pub few_in_states : sum (totals_of s sp (true_count sp records)) ≤ length records
-    few_in_states =
-        let few = pairs_few (units_at sp 1)
-        (each_weaker (IsRecordOf s sp) (λ r. sum_by (λ u. one_if (lives_in sp u r)) (units_at sp 1) ≤ 1) records
-        (λ r is. one_there sp t r.block 1 is.block.here is.block.last (omega (arith, t.deep))) each_is) in
-        omega (arith, few, sum-map (λ st. persons_in s (true_count sp records st)) (units_at sp 1))
+    -- all persons live in the nation
+    pub persons_of_nation : persons_in s (true_count sp records (nation_of sp)) ≡ length records
+    persons_of_nation =
+        persons_are (nation_of sp)
+        ∙ sum_same (λ r. one_if (lives_in sp (nation_of sp) r)) (λ r. 1) records
+        (each_weaker (IsRecordOf s sp) (λ r. one_if (lives_in sp (nation_of sp) r) ≡ 1) records
+        (λ r is. ap one_if (lives_in_nation sp t r.block is.block.here is.block.last)) each_is)
+        ∙ sum_ones records
+
+    -- and each in one unit of a level
+    pub persons_of_level : (level : ℕ) → level < sp.depth → persons_at s sp (true_count sp records) level ≡ length records
+    persons_of_level level within =
+        sums_same (λ u. persons_in s (true_count sp records u)) (λ u. count_by (lives_in sp u) records) (units_at sp level) persons_are
+        ∙ sum_swap (λ u r. one_if (lives_in sp u r)) (units_at sp level) records
+        ∙ sum_same (λ r. sum_by (λ u. one_if (lives_in sp u r)) (units_at sp level)) (λ r. 1) records
+        (each_weaker (IsRecordOf s sp) (λ r. sum_by (λ u. one_if (lives_in sp u r)) (units_at sp level) ≡ 1) records
+        (λ r is. one_there sp t r.block level is.block.here is.block.last within) each_is)
+        ∙ sum_ones records
 
 -- the count of a class is the sum of the true counts over its cells
 pub class_adds : (s : Schema) (sp : Spine) (q : Query) → q.only ≡ [] → (records : List Record) (u c : ℕ) → class_count s sp q records u c ≡ class_sum s q (true_count sp records u) c

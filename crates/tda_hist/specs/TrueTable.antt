@@ -23,6 +23,10 @@ class_count s sp q records u c = count_by (λ r. lives_in sp u r && holds (class
 abbrev pub class_sum : Schema → Query → Table → ℕ → ℕ
 class_sum s q x c = sum_by x (class_cells s q c)
 
+-- the persons of all units of a level together
+abbrev pub persons_at : Schema → Spine → Tables → ℕ → ℕ
+persons_at s sp x level = sum_by (λ u. persons_in s (x u)) (units_at sp level)
+
 -- the persons of each state, in file order
 abbrev pub totals_of : Schema → Spine → Tables → List ℕ
 totals_of s sp x = map (λ st. persons_in s (x st)) (units_at sp 1)

@@ -1,13 +1,13 @@
 // True counts of records.
-ghost use Rattle.std.specs.Prelude.{◌≡◌, ◌+◌, ◌<◌, ◌≤◌, ℕ, [], All, IfOk, OnOk, length, slice_index_or, sum, sum_by};
+ghost use Rattle.std.specs.Prelude.{◌≡◌, ◌+◌, ◌<◌, ◌≤◌, ℕ, [], All, IfOk, OnOk, count_by, length, slice_index_or, sum, sum_by};
 ghost use Rattle.tda_model.specs.Bounds.{persons_limit};
 ghost use Rattle.tda_model.specs.Cells.{cell_count};
-ghost use Rattle.tda_model.specs.Spine.{IsUnit, children_of};
+ghost use Rattle.tda_model.specs.Spine.{IsUnit, children_of, nation_of};
 ghost use Rattle.tda_model.specs.Tables.{persons_in};
 ghost use Rattle.tda_out.specs.Counts.{count_at, counts_of, with_count, AreCountsOf};
 ghost use Rattle.tda_records.specs.Records.{AreRecordsOf};
 ghost use Rattle.tda_spine.specs.Sound.{IsSound};
-ghost use Rattle.tda_hist.specs.TrueTable.{true_count, totals_of, BlocksAddUp};
+ghost use Rattle.tda_hist.specs.TrueTable.{lives_in, true_count, totals_of, persons_at, BlocksAddUp};
 ghost use Rattle.tda_hist.specs.Tally.{tallied, HasTable};
 
 use std::alloc::Global;
@@ -81,8 +81,8 @@ fn sum_children(
 }
 
 /// The true table of each unit: for each cell how many of the persons who live in the unit's blocks have it. Each unit's
-/// table is those of its blocks together, and no more persons are counted in a unit, or in all states, than there are
-/// records, which are at most 2^26.
+/// table is those of its blocks together, and it counts each person who lives in the unit once. So the nation, and the
+/// units of each level together, have exactly as many persons as there are records, at most 2^26.
 ///
 /// One addition is made for each record, and one for each unit and cell: from the last parent in fit order to the nation
 /// each adds up its children, which are whole by then. `NoMemory` where memory ran out.
@@ -93,10 +93,13 @@ pub fn count(
     records: &Records,
 ) -> Result<Tables, NoMemory>
     requires { AreRecordsOf schema.now spine.now records.now }
+    ensures tables { IfOk result (AreCountsOf schema.now spine.now) }
     ensures counts { IfOk result (λ tables. tables ≡ counts_of schema.now spine.now (true_count spine.now records.now)) }
     ensures blocks { IfOk result (λ tables. BlocksAddUp schema.now spine.now (count_at tables)) }
-    ensures few { IfOk result (λ tables. (u : ℕ) → IsUnit spine.now u → persons_in schema.now (count_at tables u) ≤ length records.now) }
-    ensures few_in_states { IfOk result (λ tables. sum (totals_of schema.now spine.now (count_at tables)) ≤ length records.now) }
+    ensures persons { IfOk result (λ tables. (u : ℕ) → IsUnit spine.now u → persons_in schema.now (count_at tables u) ≡ count_by (lives_in spine.now u) records.now) }
+    ensures nation { IfOk result (λ tables. persons_in schema.now (count_at tables (nation_of spine.now)) ≡ length records.now) }
+    ensures levels { IfOk result (λ tables. (level : ℕ) → level < spine.now.depth → persons_at schema.now spine.now (count_at tables) level ≡ length records.now) }
+    ensures states { IfOk result (λ tables. sum (totals_of schema.now spine.now (count_at tables)) ≡ length records.now) }
 {
     // The units are a tree.
     let _ = spine.units();

@@ -1,15 +1,17 @@
 // Sums of counts.
-ghost use Rattle.std.specs.Prelude.{◌≡◌, ◌<◌, ◌≤◌, Contains, IfOk, length, sum};
+ghost use Rattle.std.specs.Prelude.{◌≡◌, ◌<◌, ◌≤◌, ◌^◌, Contains, IfOk, List, length, sum};
 ghost use Rattle.tda_model.specs.Bounds.{persons_limit};
 ghost use Rattle.tda_model.specs.Cells.{cell_count};
 ghost use Rattle.tda_model.specs.Groups.{class_cells, classes_of, kind_count};
 ghost use Rattle.tda_model.specs.Spine.{IsUnit, level_of};
 ghost use Rattle.tda_model.specs.Tables.{kind_sum, persons_in};
-ghost use Rattle.tda_out.specs.Counts.{count_at, AreCountsOf};
+ghost use Rattle.tda_invar.specs.Totals.{AreTotalsOf};
+ghost use Rattle.tda_out.specs.Counts.{count_at, counts_of, AreCountsOf};
 ghost use Rattle.tda_places.specs.Places.{IsPlace};
+ghost use Rattle.tda_records.specs.declared.records.Record.{Record};
 ghost use Rattle.tda_schema.specs.Parts.{holds};
 ghost use Rattle.tda_schema.specs.Stated.{queries_at, query_at};
-ghost use Rattle.tda_hist.specs.TrueTable.{class_sum, totals_of};
+ghost use Rattle.tda_hist.specs.TrueTable.{true_count, class_count, class_sum, totals_of};
 
 use std::alloc::Global;
 use tda_invar::Totals;
@@ -63,7 +65,8 @@ pub fn state_totals(
 ) -> Result<Totals, NoMemory>
     requires tables { AreCountsOf schema.now spine.now tables.now }
     requires few { sum (totals_of schema.now spine.now (count_at tables.now)) ≤ persons_limit }
-    ensures { IfOk result (λ totals. totals ≡ totals_of schema.now spine.now (count_at tables.now)) }
+    ensures totals { IfOk result (λ totals. totals ≡ totals_of schema.now spine.now (count_at tables.now)) }
+    ensures belong { IfOk result (AreTotalsOf spine.now) }
 {
     // There is a level of states.
     let _ = spine.units();
@@ -88,12 +91,15 @@ fn is_in_class(schema: &Schema, level: usize, query: usize, class: u32, cell: u3
 }
 
 /// How many persons of a place's unit have a cell of the place's class: the sum of the unit's counts over the cells of the
-/// class, at most 2^42. A class is named by its first cell, so that no cell before it is looked at.
+/// class, at most 2^42. Of true tables it is how many records have a block of the unit and a cell of the class. A class is
+/// named by its first cell, so that no cell before it is looked at.
 pub fn class_sum(schema: &Schema, spine: &Spine, tables: &Tables, place: Place) -> u64
     requires belong { spine.now.depth ≡ length schema.now.levels }
     requires tables { AreCountsOf schema.now spine.now tables.now }
     requires place { IsPlace schema.now spine.now place }
-    ensures { result ≡ class_sum schema.now (query_at schema.now (level_of spine.now place.unit) place.query) (count_at tables.now place.unit) place.class }
+    ensures value { result ≡ class_sum schema.now (query_at schema.now (level_of spine.now place.unit) place.query) (count_at tables.now place.unit) place.class }
+    ensures persons { (records : List Record) → tables.now ≡ counts_of schema.now spine.now (true_count spine.now records) → result ≡ class_count schema.now spine.now (query_at schema.now (level_of spine.now place.unit) place.query) records place.unit place.class }
+    ensures limit { result ≤ 2 ^ 42 }
 {
     // Each unit is of one of the levels, and queries are over all possible cells.
     let _ = spine.units();

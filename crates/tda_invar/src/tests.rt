@@ -1,8 +1,17 @@
-// Which texts are facilities and totals, which fault any other text has, and what is written.
-use super::{FacFault, TotFault, read_facilities, read_totals, write_totals};
+// Which texts are facilities and totals, which fault any other text has, what is written, and the bounds of units.
+ghost use Rattle.std.specs.Prelude.{◌≡◌, IfOk, length};
+ghost use Rattle.tda_invar.specs.Known.{IsJoined};
+
+use super::{
+    FacFault, Invariants, JoinFault, TotFault, Totals, join, read_facilities, read_totals,
+    write_totals,
+};
+use std::alloc::Global;
+use std::process::Abort;
 use std::test::Fail;
-use tda_schema::read_schema;
-use tda_spine::read_spine;
+use tda_io::PERSONS;
+use tda_schema::{Schema, read_schema};
+use tda_spine::{Spine, read_spine};
 
 const SCHEMA: &[u8] =
     b"version = 1\ntotal = \"1\"\n[[attribute]]\nname = \"kind\"\nvalues = [\"house\"]\n[[level]]\nname = \"nation\"\n[[level]]\nname = \"state\"\n[[level]]\nname = \"block\"\n";
@@ -146,5 +155,177 @@ fn written_totals(rt: HostRuntime) -> Result<(), Fail> {
         out.as_slice(),
         b"before,state,total\nS1,1073741800\nS2,7\n".as_slice()
     );
+    Ok(())
+}
+
+const DORM_SCHEMA: &[u8] =
+    b"version = 1\ntotal = \"1\"\n[[attribute]]\nname = \"kind\"\nvalues = [\"house\", \"dorm\"]\n[[level]]\nname = \"nation\"\n[[level]]\nname = \"state\"\n[[level]]\nname = \"block\"\n";
+
+// Units 0 to 5 in file order.
+const DORM_SPINE: &[u8] =
+    b"unit,level,parent\nUS,nation,\nS1,state,US\nB1,block,S1\nB2,block,S1\nS2,state,US\nB3,block,S2\n";
+
+// Facilities, totals, and the fault of the two together.
+const JOINED: [(&str, &str, Option<JoinFault>); 6] = [
+    (
+        "block,kind,count\nB1,dorm,2\n",
+        "state,total\nS1,1\nS2,9\n",
+        Some(JoinFault::Short {
+            state: 1,
+            total: 1,
+            needed: 2,
+        }),
+    ),
+    (
+        "block,kind,count\nB1,dorm,2\n",
+        "state,total\nS1,2\nS2,0\n",
+        None,
+    ),
+    ("block,kind,count\n", "state,total\nS1,0\nS2,0\n", None),
+    (
+        "block,kind,count\nB1,dorm,2\nB2,dorm,4\n",
+        "state,total\nS1,5\nS2,9\n",
+        Some(JoinFault::Short {
+            state: 1,
+            total: 5,
+            needed: 6,
+        }),
+    ),
+    (
+        "block,kind,count\nB3,dorm,8\nB1,dorm,5\n",
+        "state,total\nS1,5\nS2,7\n",
+        Some(JoinFault::Short {
+            state: 4,
+            total: 7,
+            needed: 8,
+        }),
+    ),
+    (
+        "block,kind,count\nB3,dorm,9\nB1,dorm,1048576\n",
+        "state,total\nS1,5\nS2,7\n",
+        Some(JoinFault::Short {
+            state: 1,
+            total: 5,
+            needed: 1048576,
+        }),
+    ),
+];
+
+// Units, kinds, and the least and the most persons of the kind in the unit, where B1 has two dormitories.
+const BOUNDS: [(u32, u16, u64, u64); 12] = [
+    (0, 0, 0, PERSONS),
+    (1, 0, 0, PERSONS),
+    (2, 0, 0, PERSONS),
+    (3, 0, 0, PERSONS),
+    (4, 0, 0, PERSONS),
+    (5, 0, 0, PERSONS),
+    (0, 1, 2, PERSONS),
+    (1, 1, 2, PERSONS),
+    (2, 1, 2, PERSONS),
+    (3, 1, 0, 0),
+    (4, 1, 0, 0),
+    (5, 1, 0, 0),
+];
+
+// The total of each unit that is a state.
+const UNIT_TOTALS: [Option<u64>; 6] = [None, Some(5), None, None, Some(0), None];
+
+// Whether this is what comes of facilities and totals together.
+fn is_join(
+    rt: &impl Abort,
+    alloc: Global,
+    facilities: &str,
+    totals: &str,
+    due: Option<JoinFault>,
+) -> Result<bool, Fail> {
+    assert!(rt; facilities.len() < 1000 && totals.len() < 1000);
+    let schema = read_schema(alloc, DORM_SCHEMA)?;
+    let spine = read_spine(alloc, &schema, DORM_SPINE)?;
+    let facilities = read_facilities(alloc, &schema, &spine, facilities.as_bytes())?;
+    let totals = read_totals(alloc, &spine, totals.as_bytes())?;
+    Ok(join(alloc, &schema, &spine, facilities, totals).err() == due)
+}
+
+#[test]
+fn first_short_state(rt: HostRuntime) -> Result<(), Fail> {
+    for (facilities, totals, due) in JOINED {
+        let is_due = is_join(&rt, rt.alloc(), facilities, totals, due)?;
+        assert!(rt; is_due, "{facilities}{totals}");
+    }
+    Ok(())
+}
+
+// What is published of two dormitories in B1 and five persons in S1.
+fn published(alloc: Global, schema: &Schema, spine: &Spine) -> Result<Invariants, Fail>
+    requires { spine.now.depth ≡ length schema.now.levels }
+    ensures { IfOk result (IsJoined schema.now spine.now) }
+{
+    let facilities = read_facilities(alloc, schema, spine, b"block,kind,count\nB1,dorm,2\n")?;
+    let totals = read_totals(alloc, spine, b"state,total\nS1,5\nS2,0\n")?;
+    Ok(join(alloc, schema, spine, facilities, totals)?)
+}
+
+// Whether these are the least and the most persons of a kind in a unit.
+fn are_bounds(
+    rt: &impl Abort,
+    alloc: Global,
+    unit: u32,
+    kind: u16,
+    bounds: (u64, u64),
+) -> Result<bool, Fail> {
+    let schema = read_schema(alloc, DORM_SCHEMA)?;
+    let spine = read_spine(alloc, &schema, DORM_SPINE)?;
+    let invariants = published(alloc, &schema, &spine)?;
+    assert!(rt; unit < spine.units() && kind < schema.kinds());
+    let least = invariants.low(unit, kind);
+    Ok(least == bounds.0 && invariants.high(unit, kind) == bounds.1)
+}
+
+#[test]
+fn bounds_of_units(rt: HostRuntime) -> Result<(), Fail> {
+    for (unit, kind, least, most) in BOUNDS {
+        let are = are_bounds(&rt, rt.alloc(), unit, kind, (least, most))?;
+        assert!(rt; are, "kind {kind} in unit {unit}");
+    }
+    Ok(())
+}
+
+// Whether this is the total of a unit.
+fn is_total(rt: &impl Abort, alloc: Global, unit: u32, due: Option<u64>) -> Result<bool, Fail> {
+    let schema = read_schema(alloc, DORM_SCHEMA)?;
+    let spine = read_spine(alloc, &schema, DORM_SPINE)?;
+    let invariants = published(alloc, &schema, &spine)?;
+    assert!(rt; unit < spine.units());
+    Ok(invariants.total(unit) == due)
+}
+
+#[test]
+fn totals_of_units(rt: HostRuntime) -> Result<(), Fail> {
+    for (unit, due) in UNIT_TOTALS.iter().enumerate() {
+        let is = is_total(&rt, rt.alloc(), unit as u32, *due)?;
+        assert!(rt; is, "unit {unit}");
+    }
+    Ok(())
+}
+
+// The total of a state, where five persons live in the first of two states and seven in the second.
+fn listed(rt: &impl Abort, alloc: Global, state: u32) -> Result<u64, Fail> {
+    let schema = read_schema(alloc, DORM_SCHEMA)?;
+    let spine = read_spine(alloc, &schema, DORM_SPINE)?;
+    assert!(rt; state < spine.units());
+    let level = spine.level(state);
+    assert!(rt; level == 1);
+    let states = spine.at_level(1).len();
+    assert!(rt; states == 2);
+    let list = vec![in alloc; 5, 7]?;
+    Ok(Totals::from_list(&spine, list).get(&spine, state))
+}
+
+#[test]
+fn listed_totals(rt: HostRuntime) -> Result<(), Fail> {
+    for (state, due) in [(1, 5), (4, 7)] {
+        let found = listed(&rt, rt.alloc(), state)?;
+        assert_eq!(rt; found, due, "state {state}");
+    }
     Ok(())
 }

@@ -17,8 +17,34 @@ name = "nation"
 name = "block"
 "#;
 
+const TWO_LEVELS: &str = r#"
+version = 1
+total = "1/2"
+
+[[attribute]]
+name = "kind"
+values = ["house"]
+
+[[level]]
+name = "nation"
+query = [{ name = "one", by = [], share = "1/3" }]
+
+[[level]]
+name = "block"
+query = [{ name = "two", by = [], share = "2/12" }]
+"#;
+
 // Schemas, and their ledgers as files.
-const LEDGERS: [(&str, &str); 1] = [(NO_QUERY, "level,query,share\n-,spent,0/1\n-,total,1/1\n")];
+const LEDGERS: [(&str, &str); 2] = [
+    (NO_QUERY, "level,query,share\n-,spent,0/1\n-,total,1/1\n"),
+    (
+        TWO_LEVELS,
+        "level,query,share\nnation,one,1/3\nblock,two,1/6\n-,spent,1/2\n-,total,1/2\n",
+    ),
+];
+
+// The level, the query and the share of each row of two levels.
+const ROWS: [[u64; 4]; 2] = [[0, 0, 1, 3], [1, 0, 1, 6]];
 
 #[test]
 fn writes_ledgers(rt: HostRuntime) -> Result<(), Fail> {
@@ -40,15 +66,21 @@ fn writes_ledgers(rt: HostRuntime) -> Result<(), Fail> {
 
 #[test]
 fn tells_what_is_spent(rt: HostRuntime) -> Result<(), Fail> {
-    assert!(rt; NO_QUERY.len() <= 1000);
-    let schema = read_schema(rt.alloc(), NO_QUERY.as_bytes())?;
+    assert!(rt; TWO_LEVELS.len() <= 1000);
+    let schema = read_schema(rt.alloc(), TWO_LEVELS.as_bytes())?;
     let ledger = make_ledger(rt.alloc(), &schema)?;
-    assert_eq!(rt; ledger.len(), 0);
+    assert_eq!(rt; ledger.len(), 2);
     for i in 0..ledger.len() {
         let row = ledger.row(i);
-        assert!(rt; row.share.le(ledger.total()));
+        let found = [
+            row.level as u64,
+            row.query as u64,
+            row.share.num(),
+            row.share.den(),
+        ];
+        assert!(rt; i < 2 && found == ROWS[i]);
     }
-    assert_eq!(rt; (ledger.spent().num(), ledger.spent().den()), (0, 1));
-    assert_eq!(rt; (ledger.total().num(), ledger.total().den()), (1, 1));
+    assert_eq!(rt; (ledger.spent().num(), ledger.spent().den()), (1, 2));
+    assert_eq!(rt; (ledger.total().num(), ledger.total().den()), (1, 2));
     Ok(())
 }

@@ -9,3 +9,6 @@ mod sums;
 
 pub use measuring::measure;
 pub use stop::MeasureStop;
+
+#[cfg(test)]
+mod tests;

@@ -32,6 +32,12 @@ pub record AreMeasurementsOf (s : Schema) (sp : Spine) (m : List ℤ) : Type 0 w
 abbrev pub measured_at : Schema → Spine → List ℤ → Place → ℤ
 measured_at s sp m p = elim (index_of s sp p) [ Some i ↦ slice_index_or m i (pos 0) | None ↦ pos 0 ]
 
+-- the number stands among the measurements where the place stands among the places
+pub record StandsBeside (s : Schema) (sp : Spine) (m : List ℤ) (p : Place) (z : ℤ) : Type 0 where
+  pub index : ℕ
+  pub place : slice_get (places_of s sp) index ≡ Some p
+  pub number : slice_get m index ≡ Some z
+
 -- ---- the file
 abbrev pub header : Row
 header = codes "unit" ∷ codes "query" ∷ codes "class" ∷ codes "value" ∷ []

@@ -1,5 +1,5 @@
 // The index of a place.
-ghost use Rattle.std.specs.Prelude.{◌≡◌, ◌<◌, Some, Contains, length, slice_index};
+ghost use Rattle.std.specs.Prelude.{◌≡◌, ◌<◌, Some, Contains, length, slice_get, slice_index};
 ghost use Rattle.std.specs.List.{AllPairs};
 ghost use Rattle.tda_model.specs.Spine.{units_at};
 ghost use Rattle.tda_schema.specs.Stated.{queries_at};
@@ -70,6 +70,7 @@ pub(crate) fn index_of(schema: &Schema, spine: &Spine, place: Place) -> u64
     requires belong { spine.now.depth ≡ length schema.now.levels }
     requires place { IsPlace schema.now spine.now place }
     ensures index { spec.index_of schema.now spine.now place ≡ Some result }
+    ensures there { slice_get (spec.places_of schema.now spine.now) result ≡ Some place }
     ensures within { result < length (spec.places_of schema.now spine.now) }
 {
     index_of_spot(schema, spine, spot_of(schema, spine, place))

@@ -1,6 +1,6 @@
 // What was measured.
 ghost use Rattle.std.specs.Prelude.{◌≡◌, ◌<◌, length, pos, slice_index_or};
-ghost use Rattle.tda_places.specs.Measurements.{measured_at, AreMeasurementsOf, IsWithinLimit};
+ghost use Rattle.tda_places.specs.Measurements.{measured_at, AreMeasurementsOf, IsWithinLimit, StandsBeside};
 ghost use Rattle.tda_places.specs.Places.{IsPlace};
 
 use crate::Place;
@@ -59,6 +59,7 @@ impl Measurements {
         requires measured { AreMeasurementsOf schema.now spine.now self.now }
         requires place { IsPlace schema.now spine.now place }
         ensures value { result ≡ measured_at schema.now spine.now self.now place }
+        ensures beside { StandsBeside schema.now spine.now self.now place result }
         ensures limit { IsWithinLimit result }
     {
         self.get(index_of(schema, spine, place))

@@ -72,3 +72,52 @@ fn first_fault(rt: HostRuntime) -> Result<(), Fail> {
     }
     Ok(())
 }
+
+// Cells 0, 1 and 2 of a kind and a sex; cell 3 isn't possible.
+const WIDE_SCHEMA: &[u8] =
+    b"version = 1\ntotal = \"1\"\nattribute = [{ name = \"kind\", values = [\"house\", \"dorm\"] }, { name = \"sex\", values = [\"f\", \"m\"] }]\nzero = [{ kind = [\"dorm\"], sex = [\"m\"] }]\n[[level]]\nname = \"nation\"\n[[level]]\nname = \"state\"\n[[level]]\nname = \"block\"\n";
+
+// The block and the cell of each record of a text.
+const CELLS: [[u32; 2]; 3] = [[2, 1], [4, 2], [2, 0]];
+
+const CELLS_TEXT: &str = "block,kind,sex\nB1,house,m\nB2,dorm,f\nB1,house,f\n";
+
+const WIDE_REFUSED: [(&str, RecFault); 6] = [
+    (
+        "block,kind,sex\nB1,house,f\nB2,dorm,m\n",
+        RecFault::ImpossibleCell(3),
+    ),
+    ("block,sex,kind\nB1,f,house\n", RecFault::BadHeader(1)),
+    ("block,kind,sex\nB3,dorm,m\n", RecFault::UnknownBlock(2)),
+    (
+        "block,kind,sex\nB1,dorm,x\nB1,dorm,m\n",
+        RecFault::UnknownValue(2),
+    ),
+    ("block,kind,sex\nB1,f,house\n", RecFault::UnknownValue(2)),
+    ("block,kind,sex\nB1,dorm,m\nB1,dorm\n", RecFault::BadRow(3)),
+];
+
+#[test]
+fn cells_of_records(rt: HostRuntime) -> Result<(), Fail> {
+    let schema = read_schema(rt.alloc(), WIDE_SCHEMA)?;
+    let spine = read_spine(rt.alloc(), &schema, SPINE)?;
+    assert!(rt; CELLS_TEXT.len() < 1000);
+    let records = read_records(rt.alloc(), &schema, &spine, CELLS_TEXT.as_bytes())?;
+    assert_eq!(rt; records.len(), 3);
+    for (i, due) in CELLS.iter().enumerate() {
+        assert!(rt; i < 3 && [records.block(i), records.cell(i)] == *due);
+    }
+    Ok(())
+}
+
+#[test]
+fn first_fault_of_cells(rt: HostRuntime) -> Result<(), Fail> {
+    let schema = read_schema(rt.alloc(), WIDE_SCHEMA)?;
+    let spine = read_spine(rt.alloc(), &schema, SPINE)?;
+    for (text, due) in WIDE_REFUSED {
+        assert!(rt; text.len() < 1000);
+        let fault = read_records(rt.alloc(), &schema, &spine, text.as_bytes()).err();
+        assert_eq!(rt; fault, Some(due));
+    }
+    Ok(())
+}

@@ -11,6 +11,7 @@ pub mod KnownLemmas
 pub mod LookedUp
 pub mod Paid
 pub mod Named
+pub mod Divisors
 pub mod LowestTerms
 pub mod FractionTexts
 pub mod Commons

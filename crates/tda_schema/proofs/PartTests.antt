@@ -12,7 +12,7 @@ use Rattle.tda_model.specs.Schema.{Level, Schema}
 use Rattle.tda_model.specs.Cells.{cell_count, is_possible, kind_of, all_cells, possible_cells}
 use Rattle.tda_model.specs.Groups.{AreNested, LevelIsNested, group_sets, kind_count}
 use Rattle.tda_model.specs.Bounds.{HasKinds}
-use Rattle.tda_schema.specs.Parts.{holds, are_nested, level_is_nested, is_nested, has_kinds}
+use Rattle.tda_schema.specs.Parts.{holds, are_nested, level_is_nested, is_nested, has_kinds, AreDecided}
 
 module _ {X : Type 0} (p : X → Bool) (P : X → Type 0) (each : (x : X) → Decides (p x) (P x)) where
   all-Decides : (xs : List X) → Decides (list_all p xs) (All P xs)
@@ -86,3 +86,6 @@ module _ (s : Schema) where
     (λ h. let p = and_parts _ _ h in record { some = leb-true 1 (kind_count s) p.0; cell = kinds_there p.1 }),
     (λ h. and_from (nat_le 1 (kind_count s)) (list_all has_cell (range_with_len 0 (kind_count s))) (le-leb 1 (kind_count s) h.some) (kinds_back h.cell)),
   )
+
+pub tests_decide : (s : Schema) → AreDecided s
+tests_decide s = record { nested = is_nested-Decides s; kinds = has_kinds-Decides s }

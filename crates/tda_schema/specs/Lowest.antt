@@ -1,24 +1,22 @@
 -- Greatest common divisors, least common multiples, lowest terms, and the fraction whose text bytes are.
-use Rattle.std.specs.Prelude.{ℕ, zero, suc, ◌*◌, ◌/◌, ◌%◌, ◌^◌, ◌==◌, ◌&&◌, Bool, List, Option, Some, None, option_map, nat_lt, if◌then◌else◌}
+use Rattle.std.specs.Prelude.{ℕ, suc, ◌+◌, ◌*◌, ◌/◌, ◌%◌, ◌^◌, ◌==◌, ◌&&◌, max, Bool, List, filter, find, fold, Option, Some, None, option_map, unwrap_or, nat_lt, if◌then◌else◌}
 use Rattle.std.specs.Fmt.{decimal}
-use Rattle.std.specs.List.{list_any, before_first, after_first}
+use Rattle.std.specs.List.{list_any, before_first, after_first, range_with_len}
 use Rattle.std.specs.Str.{bytes_eq}
 use Rattle.std.specs.Str.Parse.{digits_value}
 use Rattle.tda_frac.specs.Fraction.{Fraction, slash}
 
--- Euclid's rests, for at most so many steps
-abbrev pub gcd_within : ℕ → ℕ → ℕ → ℕ
-gcd_within zero a b = a
-gcd_within (suc steps) a zero = a
-gcd_within (suc steps) a (suc b) = gcd_within steps (suc b) (a % suc b)
+-- whether d divides n
+abbrev pub divides : ℕ → ℕ → Bool
+divides d n = n % d == 0
 
--- the greatest common divisor: each step makes the second number less
+-- the greatest common divisor: of the numbers that divide both the greatest
 unfoldable pub gcd : ℕ → ℕ → ℕ
-gcd a b = gcd_within b a b
+gcd a b = fold max 0 (filter (λ d. divides d a && divides d b) (range_with_len 0 (a + b + 1)))
 
--- the least common multiple of numbers of at least 1
+-- the least common multiple: the first number from 1 on that both divide
 unfoldable pub lcm : ℕ → ℕ → ℕ
-lcm a b = a / gcd a b * b
+lcm a b = unwrap_or (find (λ m. divides a m && divides b m) (range_with_len 1 (a * b))) 0
 
 -- the same number in lowest terms
 unfoldable pub lowest : Fraction → Fraction

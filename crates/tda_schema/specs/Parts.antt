@@ -1,5 +1,6 @@
 -- What a schema comes to: its possible cells, the classes of its queries and the groups of its levels.
 use Rattle.std.specs.Prelude.{ℕ, ◌≡◌, ◌==◌, Bool, ◌&&◌, ◌||◌, not, List, length, map, sum_by, All, Option, Some, None, nat_le, if◌then◌else◌}
+use Rattle.std.specs.Bool.{Decides}
 use Rattle.std.specs.List.{list_all, list_any, range_with_len}
 use Rattle.tda_model.specs.Schema.{Query, Level, Schema}
 use Rattle.tda_model.specs.Cells.{is_possible, kind_of, all_cells, possible_cells}
@@ -44,7 +45,8 @@ pub record ArePartsOf (s : Schema) (p : Parts) : Type 0 where
   pub nested : All (LevelIsNested s) s.levels
   pub kinds : HasKinds s
 
--- two sets have no cell in common, or the one holds the other
+-- The tests of `AreNested`, `LevelIsNested` and `HasKinds`, which are the definitions. A clause of `read_schema` says that the
+-- tests decide them.
 abbrev pub holds : List ℕ → ℕ → Bool
 holds xs x = list_any (λ y. y == x) xs
 
@@ -54,10 +56,13 @@ are_nested xs ys = list_all (λ x. not (holds ys x)) xs || (list_all (holds ys) 
 abbrev pub level_is_nested : Schema → Level → Bool
 level_is_nested s l = list_all (λ xs. list_all (are_nested xs) (group_sets s l)) (group_sets s l)
 
--- each two groups of each level are nested
 abbrev pub is_nested : Schema → Bool
 is_nested s = list_all (level_is_nested s) s.levels
 
--- there is a kind, and each has a possible cell
 abbrev pub has_kinds : Schema → Bool
 has_kinds s = nat_le 1 (kind_count s) && list_all (λ kind. list_any (λ cell. kind_of s cell == kind) (possible_cells s)) (range_with_len 0 (kind_count s))
+
+-- a schema passes exactly where each two groups of each level are nested, and where there is a kind and each has a possible cell
+pub record AreDecided (s : Schema) : Type 0 where
+  pub nested : Decides (is_nested s) (All (LevelIsNested s) s.levels)
+  pub kinds : Decides (has_kinds s) (HasKinds s)

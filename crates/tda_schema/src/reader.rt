@@ -2,10 +2,12 @@
 ghost use Rattle.std.specs.Prelude.{◌≡◌, ◌≤◌, ◌^◌, length, IfOk};
 ghost use Rattle.toml.specs.View.{table_view};
 ghost use Rattle.tda_io.specs.Due.{Gives};
+ghost use Rattle.tda_model.specs.Schema as model;
 ghost use Rattle.tda_schema.specs.declared.fault.SchemaFault.TheVariants.{BadToml};
 ghost use Rattle.tda_schema.specs.Typed.{found};
 ghost use Rattle.tda_schema.specs.Stated.{IsLookedUp};
 ghost use Rattle.tda_schema.specs.Shares.{IsPaid};
+ghost use Rattle.tda_schema.specs.Parts.{AreDecided};
 ghost use Rattle.tda_schema.specs.Read as spec;
 
 use crate::distinct::is_distinct;
@@ -105,7 +107,8 @@ fn whole(alloc: Global, stated: Stated) -> Result<Schema, SchemaFault>
 /// the first of the faults that holds, in the order of `SchemaFault`. `NoMemory` where memory ran out.
 pub fn read_schema(alloc: Global, bytes: &[u8]) -> Result<Schema, SchemaFault>
     requires { length bytes.now ≤ 2 ^ 28 }
-    ensures { Gives SchemaFault.NoMemory (λ s. s) result (spec.read bytes.now) }
+    ensures value { Gives SchemaFault.NoMemory (λ s. s) result (spec.read bytes.now) }
+    ensures tests { (s : model.Schema) → AreDecided s }
 {
     let document = document_of(alloc, bytes)?;
     let raw = raw_of(alloc, &document)?;

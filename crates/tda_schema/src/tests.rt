@@ -2,9 +2,9 @@
 ghost use Rattle.std.specs.Prelude.{◌≡◌, ◌<◌, true, length};
 ghost use Rattle.tda_schema.specs.Stated.{queries_at};
 
-use crate::SchemaFault::NotNested;
+use crate::SchemaFault::{Denominator, NotNested, OverTotal};
 use crate::document_tests::DEMO;
-use crate::{Schema, read_schema};
+use crate::{Schema, SchemaFault, read_schema};
 use std::alloc::{AllocError, Global};
 use std::test::Fail;
 
@@ -76,13 +76,13 @@ fn is_named(schema: &Schema, level: usize, query: usize, name: &str) -> bool {
     is_query(schema, level, query) && schema.query_name(level, query) == name
 }
 
-// The weight of a query, and the numerator of its share.
-fn paid(schema: &Schema, level: usize, query: usize) -> Option<(u64, u64)> {
+// The weight of a query, and its share.
+fn paid(schema: &Schema, level: usize, query: usize) -> Option<(u64, u64, u64)> {
     if !is_query(schema, level, query) {
         return None;
     }
     let share = schema.share(level, query);
-    Some((schema.weight(level, query), share.num()))
+    Some((schema.weight(level, query), share.num(), share.den()))
 }
 
 // Whether a query has these classes.
@@ -98,13 +98,13 @@ fn class(schema: &Schema, level: usize, query: usize, cell: u32) -> Option<u32> 
     Some(schema.class_of(level, query, cell))
 }
 
-// Of each level of the demo its queries, groups and places, and its second query with its weight.
-const LEVELS: [(usize, u32, u64, &str, u64); 5] = [
-    (2, 14, 13, "detail", 1),
-    (2, 14, 13, "detail", 1),
-    (2, 8, 6, "kindage", 1),
-    (2, 14, 11, "detail", 2),
-    (2, 14, 11, "detail", 4),
+// Of each level of the demo its queries, groups and places, and its second query with its weight and share.
+const LEVELS: [(usize, u32, u64, &str, (u64, u64, u64)); 5] = [
+    (2, 14, 13, "detail", (1, 1, 16)),
+    (2, 14, 13, "detail", (1, 1, 16)),
+    (2, 8, 6, "kindage", (1, 1, 16)),
+    (2, 14, 11, "detail", (2, 1, 8)),
+    (2, 14, 11, "detail", (4, 1, 4)),
 ];
 
 // Of each possible cell of the demo the first cell of its kind and age.
@@ -133,10 +133,10 @@ fn tells_the_groups_of_the_demo(rt: HostRuntime) -> Result<(), Fail> {
     );
     assert_eq!(rt; (schema.total().num(), schema.total().den()), (1, 1));
     assert_eq!(rt; (schema.spent().num(), schema.spent().den()), (1, 1));
-    for (level, (queries, groups, places, name, weight)) in LEVELS.iter().enumerate() {
+    for (level, (queries, groups, places, name, share)) in LEVELS.iter().enumerate() {
         assert_eq!(rt; sizes(&schema, level), Some((*queries, *groups, *places)));
         assert!(rt; is_named(&schema, level, 1, *name));
-        assert_eq!(rt; paid(&schema, level, 1), Some((*weight, 1)));
+        assert_eq!(rt; paid(&schema, level, 1), Some(*share));
     }
     assert!(rt; has_classes(&schema, 2, 0, &[0]));
     assert!(rt; has_classes(&schema, 2, 1, &[0, 1, 4, 5, 9]));
@@ -190,13 +190,46 @@ fn tells_the_classes_of_a_recode(rt: HostRuntime) -> Result<(), Fail> {
     assert_eq!(rt; sizes(&schema, 0), Some((0, 3, 0)));
     assert_eq!(rt; sizes(&schema, 1), Some((2, 7, 8)));
     assert!(rt; is_named(&schema, 1, 0, "one") && is_named(&schema, 1, 1, "two"));
-    assert_eq!(rt; paid(&schema, 1, 0), Some((2, 1)));
-    assert_eq!(rt; paid(&schema, 1, 1), Some((1, 1)));
+    assert_eq!(rt; paid(&schema, 1, 0), Some((2, 1, 3)));
+    assert_eq!(rt; paid(&schema, 1, 1), Some((1, 1, 6)));
     assert!(rt; has_classes(&schema, 1, 0, &[0, 1, 3, 4]));
     assert!(rt; has_classes(&schema, 1, 1, &[0, 1, 3, 4]));
     for (cell, first) in (0..6).zip([0, 1, 0, 3, 4, 3]) {
         assert_eq!(rt; class(&schema, 1, 0, cell), Some(first));
         assert_eq!(rt; class(&schema, 1, 1, cell), Some(first));
+    }
+    Ok(())
+}
+
+// A total and the shares of two queries; and the common denominator and the sum of the shares, or the fault.
+const PAID: [(&str, &str, &str, Result<(u64, u64, u64), SchemaFault>); 3] = [
+    ("1/2", "1/3", "1/6", Ok((6, 1, 2))),
+    ("499/1000", "1/3", "1/6", Err(OverTotal)),
+    ("1", "1/1048573", "1/2", Err(Denominator)),
+];
+
+// A schema of one cell whose block has two queries.
+fn two_queries(alloc: Global, total: &str, one: &str, two: &str) -> Result<String, AllocError> {
+    format!(in alloc;
+        "version = 1\ntotal = '{total}'\nattribute = [{{name = 'kind', values = ['house']}}]\nlevel = [{{name = 'nation'}}, {{name = 'state'}}, {{name = 'block', query = [{{name = 'one', by = [], share = '{one}'}}, {{name = 'two', by = [], share = '{two}'}}]}}]"
+    )
+}
+
+// The common denominator and the sum of the shares.
+fn spent(schema: &Schema) -> (u64, u64, u64) {
+    (schema.common(), schema.spent().num(), schema.spent().den())
+}
+
+#[test]
+fn tells_what_is_spent(rt: HostRuntime) -> Result<(), Fail> {
+    for (total, one, two, due) in PAID {
+        let text = two_queries(rt.alloc(), total, one, two)?;
+        assert!(rt; text.len() <= 1000);
+        let found = match read_schema(rt.alloc(), text.as_bytes()) {
+            Ok(schema) => Ok(spent(&schema)),
+            Err(fault) => Err(fault),
+        };
+        assert_eq!(rt; found, due);
     }
     Ok(())
 }

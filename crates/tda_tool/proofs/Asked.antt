@@ -1,23 +1,12 @@
 -- Files that are asked for one after the other.
-use Rattle.std.proofs.Common.{◌≡◌, ◌<◌, ◌≤◌, ◌+◌, ◌∙◌, ◌++◌, ◌∷◌, [], ℕ, List, length, take, refl, sym, ap, arith, inl, inr, Option, Some, None, option_map, slice_index_or, Result, Ok, Err, append_assoc}
-use Rattle.std.specs.Result.{IsErr, IfOk}
-use Rattle.std.proofs.lemmas.List.{append-nil, take_more, take_all}
+use Rattle.std.proofs.Common.{◌≡◌, ◌<◌, ◌≤◌, ◌+◌, ◌∙◌, ◌++◌, ◌∷◌, [], ℕ, List, length, take, refl, sym, ap, arith, Option, Some, None, option_map, slice_index_or, append_assoc}
+use Rattle.std.proofs.lemmas.List.{append-nil, take_more, take_all, length-map}
+use Rattle.std.proofs.lemmas.Option.{slice_get-map, slice_get_within, get_or_from_slice_get}
 use Rattle.tda_io.specs.Outside.{Shelf, asks}
-use Rattle.tda_tool.specs.Attained.{Inputs}
-use Rattle.tda_tool.specs.Words.{reads_of, command_of, values_in, pairs_after, form_of}
+use Rattle.tda_tool.specs.Words.{reads_of, read_names, pairs_after, value_or_empty}
 use Rattle.tda_tool.specs.Outcome.{AsksPrefix, asks_all}
-use Rattle.tda_io.specs.declared.outside.NoMemory.{NoMemory}
-use Rattle.tda_tool.specs.Answer.{SuitsWords, AsksPrepared}
-use Rattle.tda_tool.specs.declared.answer.Answer.{Answer}
-use Rattle.tda_tool.specs.declared.answer.Answer.TheVariants as answer
-use Rattle.tda_tool.specs.Reading.{number_of, path_of, GivesFile, AsksFile, AsksFiles}
-use Rattle.tda_tool.specs.declared.words.Command.{Command}
-use Rattle.tda_tool.specs.declared.words.Command.TheVariants.{Fit}
+use Rattle.tda_tool.specs.Reading.{name_of, number_of, path_of, IsRead}
 use Rattle.tda_tool.specs.declared.reading.File.{File}
-use Rattle.tda_tool.specs.declared.reading.File.TheVariants as file
-use Rattle.tda_tool.specs.declared.refusal.Plain.{Plain}
-use Rattle.tda_tool.specs.declared.reading.Stop.{Stop}
-use Rattle.tda_tool.specs.declared.reading.Stop.TheVariants as stop
 
 -- the first n of these names were asked for
 pub record AsksFirst (names : List (List ℕ)) (n : ℕ) (old new : Option Shelf) : Type 0 where
@@ -45,35 +34,22 @@ asks_more names n old mid new h before is = record {
   asked = is ∙ ap (option_map (asks (slice_index_or names n []))) before.asked ∙ asks_next names n old h;
 }
 
--- all names
-pub asks_every : (names : List (List ℕ)) (n : ℕ) (old new : Option Shelf) → length names ≡ n → AsksFirst names n old new → new ≡ option_map (asks_all names) old
-asks_every names n old new all first = first.asked ∙ ap (λ ns. option_map (asks_all ns) old) (take_all n names (omega arith))
+-- a file that the command reads is found at the value of its name
+pub path_at : (words : List (List ℕ)) (f : File) → IsRead words f → path_of words f ≡ value_or_empty (pairs_after words) (name_of f)
+path_at words f is =
+    let value = value_or_empty (pairs_after words) in
+    get_or_from_slice_get (reads_of words) (number_of f) (value (name_of f)) [] (slice_get-map value (read_names words) (number_of f) ∙ ap (option_map value) is)
 
-abbrev reads_by : List (List ℕ) → Option Command → List (List ℕ)
-reads_by words None = []
-reads_by words (Some c) = values_in (pairs_after words) (form_of c).reads
+-- and is one of those that it reads
+pub file_within : (words : List (List ℕ)) (f : File) → IsRead words f → number_of f < length (reads_of words)
+file_within words f is =
+    let same : length (reads_of words) ≡ length (read_names words) = length-map (read_names words) (value_or_empty (pairs_after words)) in
+    omega (arith, slice_get_within (read_names words) (number_of f) (name_of f) is, same)
 
--- a command that reads four files
-pub reads_four : (words : List (List ℕ)) → command_of words ≡ Some Fit → length (reads_of words) ≡ 4
-reads_four words is = ap (λ (o : Option Command). length (reads_by words o)) is
-
-number_below_four : (f : File) → number_of f < 4
-number_below_four file.Schema = omega arith
-number_below_four file.Spine = omega arith
-number_below_four file.Facilities = omega arith
-number_below_four file.Totals = omega arith
-
--- each file is one of those that the command reads
-pub file_within : (words : List (List ℕ)) (f : File) → command_of words ≡ Some Fit → number_of f < length (reads_of words)
-file_within words f is = omega (arith, reads_four words is, number_below_four f)
-
--- one more of four files
-pub fit_asks : (words : List (List ℕ)) (f : File) (old mid new : Option Shelf) → command_of words ≡ Some Fit
+-- one more file of the command
+pub file_asks : (words : List (List ℕ)) (f : File) (old mid new : Option Shelf) → IsRead words f
     → AsksFirst (reads_of words) (number_of f) old mid → new ≡ option_map (asks (path_of words f)) mid → AsksFirst (reads_of words) (number_of f + 1) old new
-fit_asks words f old mid new is before asked = asks_more _ _ old mid new (file_within words f is) before asked
-
-pub fit_asks_all : (words : List (List ℕ)) (old new : Option Shelf) → command_of words ≡ Some Fit → AsksFirst (reads_of words) 4 old new → new ≡ option_map (asks_all (reads_of words)) old
-fit_asks_all words old new is first = asks_every _ 4 old new (reads_four words is) first
+file_asks words f old mid new is before asked = asks_more _ _ old mid new (file_within words f is) before asked
 
 -- all names are the first ones of them
 pub asks_whole : (names : List (List ℕ)) (old new : Option Shelf) → new ≡ option_map (asks_all names) old → AsksPrefix names old new
@@ -83,14 +59,6 @@ asks_whole names old new is = record {
   asked = is ∙ ap (λ ns. option_map (asks_all ns) old) (sym (take_all (length names) names (omega arith)));
 }
 
-pub prepared_none : (words : List (List ℕ)) (old new : Option Shelf) (r : Result Answer NoMemory) → IsErr r → AsksPrefix (reads_of words) old new → AsksPrepared words old new r
-prepared_none words old new (Err e) failed asked = asked
-prepared_none words old new (Ok a) failed asked = cc failed
-
--- a run asked for a prefix of the names
-pub asks_prepared : (words : List (List ℕ)) (old new : Option Shelf) (r : Result Answer NoMemory) → IfOk r (SuitsWords words) → AsksPrepared words old new r → AsksPrefix (reads_of words) old new
-asks_prepared words old new (Err e) suits asked = asked
-asks_prepared words old new (Ok answer.Words) suits asked = record { count = 0; within = omega arith; asked = asked ∙ asks_none old }
-asks_prepared words old new (Ok (answer.Refused r)) suits asked = record { count = number_of r.file + 1; within = omega (arith, file_within words r.file suits.0); asked = asked }
-asks_prepared words old new (Ok (answer.Read f)) suits asked = record { count = number_of f + 1; within = omega (arith, file_within words f suits); asked = asked }
-asks_prepared words old new (Ok (answer.Fit r)) suits asked = asks_whole (reads_of words) old new asked
+-- the first ones of names
+pub asks_first : (names : List (List ℕ)) (n : ℕ) (old new : Option Shelf) → AsksFirst names n old new → AsksPrefix names old new
+asks_first names n old new first = record { count = n; within = first.within; asked = first.asked }

@@ -12,7 +12,7 @@ asks_none : (old new : Option Tray) → new ≡ old → AsksBegin [] old new
 asks_none None new same = ap (option_map (λ t. t.asked)) same
 asks_none (Some t) new same = ap (option_map (λ t. t.asked)) same ∙ ap Some (sym (append-nil t.asked))
 
-asks_then : (xs ys : List (List ℕ)) (old mid new : Option Tray) → AsksBegin xs old mid → AsksBegin ys mid new → AsksBegin (xs ++ ys) old new
+pub asks_then : (xs ys : List (List ℕ)) (old mid new : Option Tray) → AsksBegin xs old mid → AsksBegin ys mid new → AsksBegin (xs ++ ys) old new
 asks_then xs ys None None new first later = later
 asks_then xs ys None (Some m) new first later = cc first
 asks_then xs ys (Some t) None new first later = cc first
@@ -37,7 +37,7 @@ pub record AsksOnce (name : List ℕ) (old new : Option Tray) : Type 0 where
   pub done : Bool
   pub asked : AsksBegin (if done then name ∷ [] else []) old new
 
-given_up_asks : (name text : List ℕ) (old new : Option Tray) → LeavesPart name text old new → AsksOnce name old new
+pub given_up_asks : (name text : List ℕ) (old new : Option Tray) → LeavesPart name text old new → AsksOnce name old new
 given_up_asks name text old new (inl same) = record { done = false; asked = asks_none old new same }
 given_up_asks name text old new (inr (inl is)) = record { done = true; asked = refused_asks name old new is }
 given_up_asks name text old new (inr (inr left)) = record { done = true; asked = part_asks name (take left.0 text) old new left.2 }
@@ -59,10 +59,6 @@ first_begun : (name : List ℕ) (done : Bool) (old new : Option Tray) → AsksBe
 first_begun name true old new asked = record { count = 1; within = omega arith; asked = asked }
 first_begun name false old new asked = record { count = 0; within = omega arith; asked = asked }
 
--- one output
-pub output_begun : (name : List ℕ) (old new : Option Tray) → AsksOnce name old new → BeginsFirst (name ∷ []) old new
-output_begun name old new once = first_begun name once.done old new once.asked
-
 take_none : (n : ℕ) → take {A = List ℕ} n [] ≡ []
 take_none zero = refl
 take_none (suc n) = refl
@@ -77,15 +73,6 @@ begun_then names old mid new first later = record {
   within = first.within;
   report = later.report;
   asked = asks_then _ _ old mid new first.asked (tail_is later.count later.report mid new later.asked);
-}
-
--- outputs without the report
-pub begun_first : (names : List (List ℕ)) (old new : Option Tray) → BeginsFirst names old new → BeginsPrefix names old new
-begun_first names old new first = record {
-  count = first.count;
-  within = first.within;
-  report = false;
-  asked = first.asked ∙ ap (λ ns. option_map (λ t. t.asked ++ ns) old) (sym (append-nil (take first.count names)));
 }
 
 -- the report alone, before any output

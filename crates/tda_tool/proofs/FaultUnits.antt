@@ -1,5 +1,5 @@
 -- The states that faults of totals name are units.
-use Rattle.std.proofs.Common.{◌≡◌, ◌≢◌, ℕ, ◌+◌, ◌<◌, Bool, true, false, not, cond, List, [], ◌∷◌, ◌++◌, length, find, Option, Some, None, option_map, is_none, Result, Ok, Err, refl, ap, ◌∙◌, subst, arith}
+use Rattle.std.proofs.Common.{◌≡◌, ◌≢◌, ℕ, ◌+◌, Bool, true, false, not, cond, List, [], ◌∷◌, ◌++◌, length, find, Option, Some, None, option_map, is_none, Result, Ok, Err, refl, ap, subst, arith}
 use Rattle.tda_io.specs.Due.{◌>>◌, none_of, fault_if}
 use Rattle.tda_io.specs.Csv as csv
 use Rattle.tda_io.specs.Csv.{Row, first_fault, or_else, has_header, after_header}
@@ -9,12 +9,12 @@ use Rattle.tda_model.specs.Spine.{Spine, IsUnit, is_at, units_at, unit_numbers}
 use Rattle.tda_model.specs.Tables.{Published}
 use Rattle.tda_model.proofs.Sums.{Each, each_filter, each_range}
 use Rattle.tda_invar.specs.Totals.{has_unknown_state, is_repeated, count_in, row_fault, first_missing, has_too_many, file_fault, format, header, read}
-use Rattle.tda_invar.specs.Known.{is_short, short_of, join_fault, join_due}
+use Rattle.tda_invar.specs.Known.{is_short, short_of, join_due}
 use Rattle.tda_invar.specs.declared.tot_fault.TotFault.{TotFault}
 use Rattle.tda_invar.specs.declared.tot_fault.TotFault.TheVariants as tot
 use Rattle.tda_invar.specs.declared.join_fault.JoinFault.{JoinFault}
 use Rattle.tda_invar.specs.declared.join_fault.JoinFault.TheVariants as join
-use Rattle.tda_tool.specs.Refusal.{NamesUnits}
+use Rattle.tda_tool.specs.Refusal.{NamesKnown}
 use Rattle.tda_tool.specs.declared.refusal.Named.TheVariants.{Totals, Join}
 
 -- what is found is one of those among which it is sought
@@ -74,15 +74,15 @@ module _ (sp : Spine) (u : ℕ) where
       by (Some n) is = cc is
       by None is = judged_blames (rows_of text) is
 
-pub totals_name : (sp : Spine) (text : List ℕ) (f : TotFault) → (f ≢ tot.NoMemory → read sp text ≡ Err f) → NamesUnits sp (Totals f)
-totals_name sp text (tot.Missing u) due = missing_here sp u text (due (λ e. cc e))
-totals_name sp text (tot.BadRow n) due = tt
-totals_name sp text (tot.BadHeader n) due = tt
-totals_name sp text (tot.UnknownState n) due = tt
-totals_name sp text (tot.Repeated n) due = tt
-totals_name sp text (tot.BadCount n) due = tt
-totals_name sp text tot.TooManyPersons due = tt
-totals_name sp text tot.NoMemory due = tt
+pub totals_name : (s : Schema) (sp : Spine) (text : List ℕ) (f : TotFault) → (f ≢ tot.NoMemory → read sp text ≡ Err f) → NamesKnown s sp (Totals f)
+totals_name s sp text (tot.Missing u) due = missing_here sp u text (due (λ e. cc e))
+totals_name s sp text (tot.BadRow n) due = tt
+totals_name s sp text (tot.BadHeader n) due = tt
+totals_name s sp text (tot.UnknownState n) due = tt
+totals_name s sp text (tot.Repeated n) due = tt
+totals_name s sp text (tot.BadCount n) due = tt
+totals_name s sp text tot.TooManyPersons due = tt
+totals_name s sp text tot.NoMemory due = tt
 
 short_here : (s : Schema) (sp : Spine) (p : Published) (u total need : ℕ) → join_due s sp p ≡ Err (join.Short u total need) → IsUnit sp u
 short_here s sp p u total need e = by (find (is_short s sp p) (units_at sp 1)) (λ v is. found_is (IsUnit sp) _ (units_at sp 1) v (states_here sp) is) e
@@ -91,6 +91,6 @@ short_here s sp p u total need e = by (find (is_short s sp p) (units_at sp 1)) (
     by (Some v) here is = let same : v ≡ u = cc is in subst (IsUnit sp) same (here v refl)
     by None here is = cc is
 
-pub join_names : (s : Schema) (sp : Spine) (p : Published) (f : JoinFault) → (f ≢ join.NoMemory → join_due s sp p ≡ Err f) → NamesUnits sp (Join f)
+pub join_names : (s : Schema) (sp : Spine) (p : Published) (f : JoinFault) → (f ≢ join.NoMemory → join_due s sp p ≡ Err f) → NamesKnown s sp (Join f)
 join_names s sp p (join.Short u total need) due = short_here s sp p u total need (due (λ e. cc e))
 join_names s sp p join.NoMemory due = tt

@@ -1,187 +1,407 @@
 -- What a run leaves tells what the top call answers.
-use Rattle.std.proofs.Common.{◌≡◌, ◌≢◌, ◌∙◌, ◌∷◌, [], List, ℕ, refl, sym, ap, subst, Option, Some, None, IfSome, inl, inr, Result, Ok, Err, slice_index_or}
+use Rattle.std.proofs.Common.{◌≡◌, ◌≢◌, ◌∙◌, ◌++◌, ◌∷◌, ◌+◌, ◌⊎◌, [], List, ℕ, ℤ, length, take, refl, sym, ap, subst, Option, Some, None, IfSome, option_map, inl, inr, Result, Ok, Err, slice_index_or, arith}
 use Rattle.std.specs.Result.{IfOk}
+use Rattle.std.proofs.lemmas.List.{length-map}
+use Rattle.std.proofs.lemmas.Option.{get_or_from_slice_get}
+use Rattle.tda_io.specs.Due.{◌>>=◌}
 use Rattle.tda_io.specs.Outside.{Shelf, Tray}
+use Rattle.tda_model.specs.TablesText.{tables_text}
+use Rattle.tda_invar.specs.Totals.{totals_text}
+use Rattle.tda_ledger.specs.LedgerText.{ledger_text}
+use Rattle.tda_places.specs.Measurements.{measurements_text}
 use Rattle.tda_io.specs.declared.outside.OutFault.{OutFault}
 use Rattle.tda_io.specs.declared.outside.OutFault.TheVariants as fault_out
-use Rattle.tda_tool.specs.Words.{command_of, form_of, writes_of, read_names, fit_form}
-use Rattle.tda_tool.specs.declared.refusal.Refusal.{Refusal}
-use Rattle.tda_tool.specs.Due.{Ending, due, due_by, fit_due, words_ending, refused_ending, read_ending, fit_ending, inputs_from, given_by, failing_at}
-use Rattle.tda_tool.specs.Outcome.{IsSettled, Leaves, LeavesReport, LeavesAll, FitWrote, FileRefused, ReadFailed, BeginsPrefix, BeginsWhenDue}
-use Rattle.tda_tool.specs.Reading.{name_of, number_of}
-use Rattle.tda_tool.specs.Answer.{ending_of, SuitsWords, IsDue, IsFitted, Asks, files_of, targets_of, tables_path, CountsAnswer, status_of}
+use Rattle.tda_measure.specs.Noise.{variances_of, IsNoise, IsDetermined}
+use Rattle.tda_measure.specs.declared.stop.MeasureStop.{MeasureStop}
+use Rattle.tda_tool.specs.Attained.{Inputs}
+use Rattle.tda_tool.specs.Measuring.{Survey, state_counts, noise_ending, stop_ending, measured_ending, MeasureEnds}
+use Rattle.tda_tool.specs.Words.{command_of, form_in, reads_of, writes_of, read_names, write_names, pairs_after, values_in, dash}
+use Rattle.tda_tool.specs.Ending.{Ending, words_ending, refused_ending, read_ending, fit_ending}
+use Rattle.tda_tool.specs.Due.{Given, Task, Fits, Measures, EndsBy, Due, IsDue, IsDueStatus, task_of, task_by, due_task, inputs_from, survey_from, given_by, failing_at}
+use Rattle.tda_tool.specs.Outcome.{IsSettled, whole, asks_all, Leaves, LeavesReport, LeavesAll, ReportsDue, FitWrote, MeasureWrote, NoiseStopped, FileRefused, ReadFailed, AsksPrefix, BeginsPrefix, BeginsWhenDue}
+use Rattle.tda_tool.specs.Reading.{name_of, number_of, IsRead}
+use Rattle.tda_tool.specs.Answer.{status_by, Suits, SuitsBy, IsDone, HasInputs, HasSurvey, IsFitted, IsMeasured, StopsWith, RefusesFile, FailsAt, ReportsAlone, WritesNames, Asks, AsksBy, CountsBy, files_of, target_of, targets_of, status_of}
 use Rattle.tda_tool.specs.declared.words.Command.{Command}
-use Rattle.tda_tool.specs.declared.words.Command.TheVariants.{Fit}
+use Rattle.tda_tool.specs.declared.words.Command.TheVariants as command
 use Rattle.tda_tool.specs.declared.reading.File.{File}
-use Rattle.tda_tool.specs.declared.reading.File.TheVariants as file
 use Rattle.tda_tool.specs.declared.answer.Answer.{Answer}
-use Rattle.tda_tool.specs.declared.answer.Answer.TheVariants as answer
-use Rattle.tda_tool.specs.declared.answer.Fitted.{Fitted}
+use Rattle.tda_tool.specs.declared.answer.Cause.{Cause}
+use Rattle.tda_tool.specs.declared.answer.Cause.TheVariants as cause
 use Rattle.tda_tool.proofs.Begun.{begun_alone}
-use Rattle.tda_tool.proofs.Paths.{writes_one}
-use Rattle.tda_tool.proofs.Asked.{file_within}
+use Rattle.tda_tool.proofs.Asked.{file_within, asks_whole, asks_first, asks_no_name}
+use Rattle.tda_tool.proofs.Outputs.{names_in, texts_in, files_are, written_outputs, targets_written, no_targets, report_alone}
 
--- a run's answer and status
-abbrev Run : Type 0
+-- a run's answer, or why it failed
+abbrev pub Run : Type 0
 Run = Result Answer OutFault
 
-abbrev ending_by : (ℕ → Option (List ℕ)) → Option Command → Ending
-ending_by given None = words_ending
-ending_by given (Some Fit) = fit_due (inputs_from given)
+-- ---- what is due
 
--- what is due
-due_words : (words : List (List ℕ)) (holds : List ℕ → Option (List ℕ)) → command_of words ≡ None → due words holds ≡ words_ending
-due_words words holds is = ap (ending_by (given_by words holds)) is
+-- where one ending alone belongs to what is to be done
+due_from : (words : List (List ℕ)) (holds : List ℕ → Option (List ℕ)) (r : Result Task Ending) (e : Ending) → due_task words holds ≡ r → EndsBy r e
+    → ((d : Ending) → EndsBy r d → d ≡ e) → IsDue words holds e
+due_from words holds r e is ends alone =
+    let back : (d : Ending) → Due words holds d → d ≡ e = λ d h. alone d (subst (λ t. EndsBy t d) is h) in
+    record {
+      due = subst (λ t. EndsBy t e) (sym is) ends;
+      status = λ d h. ap (λ x. x.status) (back d h);
+      report = λ some d h. back d h;
+    }
 
-due_stop : (words : List (List ℕ)) (given : ℕ → Option (List ℕ)) (e : Ending) → command_of words ≡ Some Fit → inputs_from given ≡ Err e → due_by words given ≡ e
-due_stop words given e is stops = ap (ending_by given) is ∙ ap fit_due stops
+due_early : (words : List (List ℕ)) (holds : List ℕ → Option (List ℕ)) (e : Ending) → due_task words holds ≡ Err e → IsDue words holds e
+due_early words holds e is = due_from words holds (Err e) e is refl (λ d h. h)
 
-due_refused : (words : List (List ℕ)) (holds : List ℕ → Option (List ℕ)) (f : File) (fault : List ℕ) → command_of words ≡ Some Fit
-    → inputs_from (given_by words holds) ≡ Err (refused_ending (name_of f) fault) → due words holds ≡ refused_ending (name_of f) fault
-due_refused words holds f fault is stops = due_stop words (given_by words holds) _ is stops
+abbrev task_if : List (List ℕ) → Given → Option Command → Result Task Ending
+task_if words given o = elim o [ None ↦ Err words_ending | Some c ↦ task_of c words given ]
 
-due_fit : (words : List (List ℕ)) (holds : List ℕ → Option (List ℕ)) (r : Fitted) → command_of words ≡ Some Fit → (fitted : IsFitted words holds r) → due words holds ≡ fit_ending fitted.inputs.spine
-due_fit words holds r is fitted = ap (ending_by (given_by words holds)) is ∙ ap fit_due fitted.accepted
+abbrev to_fit : Result Inputs Ending → Result Task Ending
+to_fit r = r >>= (λ i. Ok (Fits i))
 
-pub settled : (words : List (List ℕ)) (shelf : Option Shelf) (r : Run) → IfOk r (SuitsWords words) → IfOk r (λ a. IfSome shelf (λ s. IsDue words s.holds a))
-    → IsSettled (status_of r) → IfSome shelf (λ s. (due words s.holds).status ≡ status_of r)
-settled words None r suits is calm = tt
-settled words (Some s) (Ok answer.Words) suits is calm = ap (λ e. e.status) (due_words words s.holds suits)
-settled words (Some s) (Ok (answer.Refused r)) suits is calm = ap (λ e. e.status) (due_refused words s.holds r.file r.fault.items suits.0 is)
-settled words (Some s) (Ok (answer.Read f)) suits is calm = absurd (calm.read refl)
-settled words (Some s) (Ok (answer.Fit r)) suits is calm = ap (λ e. e.status) (due_fit words s.holds r suits is)
-settled words (Some s) (Err fault_out.Failed) suits is calm = absurd (calm.written refl)
-settled words (Some s) (Err fault_out.NoMemory) suits is calm = absurd (calm.remembered refl)
+abbrev to_measure : Result Survey Ending → Result Task Ending
+to_measure r = r >>= (λ v. Ok (Measures v))
 
--- the report that is due stands alone
-report_is : (e d : Ending) (old new : Option Tray) → d ≡ e → LeavesReport e.report old new → LeavesReport d.report old new
-report_is e d old new is left = rw is left
+pub fit_task : (words : List (List ℕ)) (given : Given) (r : Result Inputs Ending) → command_of words ≡ Some command.Fit → inputs_from given ≡ r → task_by words given ≡ to_fit r
+fit_task words given r is held = ap (task_if words given) is ∙ ap to_fit held
 
-pub settled_report : (words : List (List ℕ)) (shelf : Option Shelf) (r : Run) (old new : Option Tray) → IfOk r (SuitsWords words) → IfOk r (λ a. IfSome shelf (λ s. IsDue words s.holds a))
-    → IfOk r (λ a. Leaves (files_of words a) old new)
-    → IsSettled (status_of r) → status_of r ≢ 0 → IfSome shelf (λ s. LeavesReport (due words s.holds).report old new)
-settled_report words None r old new suits is left calm some = tt
-settled_report words (Some s) (Ok answer.Words) old new suits is left calm some = report_is words_ending _ old new (due_words words s.holds suits) left
-settled_report words (Some s) (Ok (answer.Refused r)) old new suits is left calm some = report_is (refused_ending (name_of r.file) r.fault.items) _ old new (due_refused words s.holds r.file r.fault.items suits.0 is) left
-settled_report words (Some s) (Ok (answer.Read f)) old new suits is left calm some = absurd (calm.read refl)
-settled_report words (Some s) (Ok (answer.Fit r)) old new suits is left calm some = absurd (some refl)
-settled_report words (Some s) (Err fault_out.Failed) old new suits is left calm some = absurd (calm.written refl)
-settled_report words (Some s) (Err fault_out.NoMemory) old new suits is left calm some = absurd (calm.remembered refl)
+pub measure_task : (words : List (List ℕ)) (given : Given) (r : Result Survey Ending) → command_of words ≡ Some command.Measure → survey_from words given ≡ r → task_by words given ≡ to_measure r
+measure_task words given r is held = ap (task_if words given) is ∙ ap to_measure held
 
--- the tables
-wrote : (words : List (List ℕ)) (holds : List ℕ → Option (List ℕ)) (r : Fitted) (old new : Option Tray) → IsFitted words holds r → Leaves (files_of words (answer.Fit r)) old new → FitWrote words holds old new
-wrote words holds r old new fitted left = record {
-  inputs = fitted.inputs;
-  accepted = fitted.accepted;
-  tables = fitted.made.tables;
-  attained = fitted.made.attained;
-  written = rw (fitted.made.text, fitted.made.fits) at left;
+words_task : (words : List (List ℕ)) (given : Given) → command_of words ≡ None → task_by words given ≡ Err words_ending
+words_task words given is = ap (task_if words given) is
+
+fit_due : (words : List (List ℕ)) (s : Shelf) (i : Inputs) → HasInputs words (Some s) i → IsDue words s.holds (fit_ending i.spine)
+fit_due words s i has = due_from words s.holds (Ok (Fits i)) _ (fit_task words (given_by words s.holds) (Ok i) has.0 has.1) refl (λ d h. h)
+
+-- one ending alone belongs to what the noise comes to
+noise_alone : (v : Survey) → IsDetermined (IsNoise (variances_of v.schema v.spine)) → (noise : Result (List ℤ) MeasureStop) (rest : List ℕ)
+    → IsNoise (variances_of v.schema v.spine) v.words noise rest → (d : Ending) → MeasureEnds v d → d ≡ noise_ending v noise rest
+noise_alone v one noise rest is d h =
+    let same : h.noise ≡ noise = one.value v.words h.noise noise h.rest rest h.is is in
+    let left : h.rest ≡ rest = one.rest v.words h.noise noise h.rest rest h.is is in
+    h.ending ∙ ap (λ n. noise_ending v n h.rest) same ∙ ap (λ r. noise_ending v noise r) left
+
+survey_due : (words : List (List ℕ)) (s : Shelf) (v : Survey) → HasSurvey words (Some s) v → (noise : Result (List ℤ) MeasureStop) (rest : List ℕ)
+    → IsNoise (variances_of v.schema v.spine) v.words noise rest → IsDue words s.holds (noise_ending v noise rest)
+survey_due words s v has noise rest is =
+    due_from words s.holds (Ok (Measures v)) _ (measure_task words (given_by words s.holds) (Ok v) has.is has.held)
+    (record { noise = noise; rest = rest; is = is; ending = refl })
+    (noise_alone v has.one noise rest is)
+
+-- the ending that is due where the answer has this status, and the report alone but for status 0
+record DueAnswer (words : List (List ℕ)) (holds : List ℕ → Option (List ℕ)) (status : ℕ) (a : Answer) : Type 0 where
+  pub ending : Ending
+  pub due : IsDue words holds ending
+  pub status_is : ending.status ≡ status
+  pub alone : status ≢ 0 → ReportsAlone ending a
+
+done_due : (c : Command) (words : List (List ℕ)) (s : Shelf) (a : Answer) → IsDone c words (Some s) a → DueAnswer words s.holds 0 a
+done_due command.Fit words s a done = record {
+  ending = fit_ending done.0.spine;
+  due = fit_due words s done.0 done.1;
+  status_is = refl;
+  alone = λ some. absurd (some refl);
+}
+done_due command.Measure words s a done = record {
+  ending = noise_ending done.0 (Ok done.2.measured.measured.noise) done.2.measured.rest;
+  due = survey_due words s done.0 done.1 (Ok done.2.measured.measured.noise) done.2.measured.rest done.2.measured.measured.drawn;
+  status_is = refl;
+  alone = λ some. absurd (some refl);
 }
 
-pub fit_wrote : (words : List (List ℕ)) (shelf : Option Shelf) (r : Run) (old new : Option Tray) → IfOk r (λ a. IfSome shelf (λ s. IsDue words s.holds a))
-    → IfOk r (λ a. Leaves (files_of words a) old new) → status_of r ≡ 0 → command_of words ≡ Some Fit → IfSome shelf (λ s. FitWrote words s.holds old new)
-fit_wrote words None r old new is left done fit = tt
-fit_wrote words (Some s) (Ok answer.Words) old new is left done fit = cc done
-fit_wrote words (Some s) (Ok (answer.Refused r)) old new is left done fit = cc done
-fit_wrote words (Some s) (Ok (answer.Read f)) old new is left done fit = cc done
-fit_wrote words (Some s) (Ok (answer.Fit r)) old new is left done fit = wrote words s.holds r old new is left
-fit_wrote words (Some s) (Err fault_out.Failed) old new is left done fit = cc done
-fit_wrote words (Some s) (Err fault_out.NoMemory) old new is left done fit = cc done
-
-wrote_all : (words : List (List ℕ)) (r : Fitted) (old new : Option Tray) → command_of words ≡ Some Fit → Leaves (files_of words (answer.Fit r)) old new → LeavesAll (writes_of words) old new
-wrote_all words r old new is left =
-    let all : LeavesAll (tables_path words ∷ []) old new = record { texts = r.tables.items ∷ []; each = refl; report = (ending_of (answer.Fit r)).report; written = left } in
-    subst (λ names. LeavesAll names old new) (sym (writes_one words is)) all
-
-pub all_written : (words : List (List ℕ)) (r : Run) (old new : Option Tray) → IfOk r (SuitsWords words) → IfOk r (λ a. Leaves (files_of words a) old new) → status_of r ≡ 0 → LeavesAll (writes_of words) old new
-all_written words (Ok answer.Words) old new suits left done = cc done
-all_written words (Ok (answer.Refused r)) old new suits left done = cc done
-all_written words (Ok (answer.Read f)) old new suits left done = cc done
-all_written words (Ok (answer.Fit r)) old new suits left done = wrote_all words r old new suits left
-all_written words (Err fault_out.Failed) old new suits left done = cc done
-all_written words (Err fault_out.NoMemory) old new suits left done = cc done
-
--- the name of a file by its place
-fit_name_at : (f : File) → name_of f ≡ slice_index_or fit_form.reads (number_of f) []
-fit_name_at file.Schema = refl
-fit_name_at file.Spine = refl
-fit_name_at file.Facilities = refl
-fit_name_at file.Totals = refl
-
-abbrev names_by : Option Command → List (List ℕ)
-names_by None = []
-names_by (Some c) = (form_of c).reads
-
-name_at : (words : List (List ℕ)) (f : File) → command_of words ≡ Some Fit → name_of f ≡ slice_index_or (read_names words) (number_of f) []
-name_at words f is = fit_name_at f ∙ ap (λ names. slice_index_or names (number_of f) []) (sym (ap names_by is))
-
-refused_at : (words : List (List ℕ)) (r : Refusal) (shelf : Option Shelf) → command_of words ≡ Some Fit
-    → IfSome shelf (λ s. IsDue words s.holds (answer.Refused r)) → IfSome shelf (λ s. due words s.holds ≡ refused_ending (name_of r.file) r.fault.items)
-refused_at words r None suits is = tt
-refused_at words r (Some s) suits is = due_refused words s.holds r.file r.fault.items suits is
-
-refused_file : (words : List (List ℕ)) (r : Refusal) (shelf shelf_new : Option Shelf) (old new : Option Tray) → SuitsWords words (answer.Refused r)
-    → IfSome shelf (λ s. IsDue words s.holds (answer.Refused r)) → Asks words shelf shelf_new (answer.Refused r) → Leaves (files_of words (answer.Refused r)) old new → FileRefused words shelf shelf_new old new
-refused_file words r shelf shelf_new old new suits is asked left = record {
-  file = number_of r.file;
-  within = file_within words r.file suits.0;
-  asked = asked;
-  fault = r.fault.items;
-  of_fault = suits.1;
-  refused = subst (λ name. IfSome shelf (λ s. due words s.holds ≡ refused_ending name r.fault.items)) (name_at words r.file suits.0) (refused_at words r shelf suits.0 is);
-  written = subst (λ name. LeavesReport (refused_ending name r.fault.items).report old new) (name_at words r.file suits.0) left;
+stop_due : (words : List (List ℕ)) (s : Shelf) (status : ℕ) (v : Survey) (a : Answer) → HasSurvey words (Some s) v → StopsWith v.schema v.spine v.words status a → DueAnswer words s.holds status a
+stop_due words s status v a has stops = record {
+  ending = stop_ending v.schema v.spine stops.why;
+  due = survey_due words s v has (Err stops.why) stops.rest stops.stops;
+  status_is = stops.ends;
+  alone = λ some. stops.alone;
 }
 
-pub refused : (words : List (List ℕ)) (r : Run) (shelf shelf_new : Option Shelf) (old new : Option Tray) → IfOk r (SuitsWords words)
-    → IfOk r (λ a. IfSome shelf (λ s. IsDue words s.holds a)) → IfOk r (Asks words shelf shelf_new) → IfOk r (λ a. Leaves (files_of words a) old new)
-    → status_of r ≡ 3 → FileRefused words shelf shelf_new old new
-refused words (Ok answer.Words) shelf shelf_new old new suits is asked left three = cc three
-refused words (Ok (answer.Refused r)) shelf shelf_new old new suits is asked left three = refused_file words r shelf shelf_new old new suits is asked left
-refused words (Ok (answer.Read f)) shelf shelf_new old new suits is asked left three = cc three
-refused words (Ok (answer.Fit r)) shelf shelf_new old new suits is asked left three = cc three
-refused words (Err fault_out.Failed) shelf shelf_new old new suits is asked left three = cc three
-refused words (Err fault_out.NoMemory) shelf shelf_new old new suits is asked left three = cc three
-
-read_at : (words : List (List ℕ)) (f : File) (shelf : Option Shelf) → command_of words ≡ Some Fit
-    → IfSome shelf (λ s. IsDue words s.holds (answer.Read f)) → IfSome shelf (λ s. due_by words (failing_at (number_of f) (given_by words s.holds)) ≡ read_ending (name_of f))
-read_at words f None suits is = tt
-read_at words f (Some s) suits is = due_stop words (failing_at (number_of f) (given_by words s.holds)) _ suits is
-
-read_file : (words : List (List ℕ)) (f : File) (shelf shelf_new : Option Shelf) (old new : Option Tray) → SuitsWords words (answer.Read f)
-    → IfSome shelf (λ s. IsDue words s.holds (answer.Read f)) → Asks words shelf shelf_new (answer.Read f) → Leaves (files_of words (answer.Read f)) old new → ReadFailed words shelf shelf_new old new
-read_file words f shelf shelf_new old new suits is asked left = record {
-  file = number_of f;
-  within = file_within words f suits;
-  asked = asked;
-  accepted = subst (λ name. IfSome shelf (λ s. due_by words (failing_at (number_of f) (given_by words s.holds)) ≡ read_ending name)) (name_at words f suits) (read_at words f shelf suits is);
-  written = subst (λ name. LeavesReport (read_ending name).report old new) (name_at words f suits) left;
+suits_due : (k : Cause) (words : List (List ℕ)) (s : Shelf) (a : Answer) → SuitsBy k words (Some s) a → status_by k ≢ 4 → DueAnswer words s.holds (status_by k) a
+suits_due cause.Done words s a suits calm = done_due suits.0 words s a suits.1
+suits_due cause.Words words s a suits calm = record {
+  ending = words_ending;
+  due = due_early words s.holds words_ending (words_task words (given_by words s.holds) suits.0);
+  status_is = refl;
+  alone = λ some. suits.1;
 }
+suits_due (cause.Refused f) words s a suits calm = record {
+  ending = refused_ending (name_of f) suits.fault;
+  due = due_early words s.holds _ suits.due;
+  status_is = refl;
+  alone = λ some. suits.alone;
+}
+suits_due (cause.Read f) words s a suits calm = absurd (calm refl)
+suits_due cause.OutOfWords words s a suits calm = stop_due words s 6 suits.0 a suits.1 suits.2
+suits_due cause.TooLarge words s a suits calm = stop_due words s 7 suits.0 a suits.1 suits.2
 
-pub failed_file : (words : List (List ℕ)) (r : Run) (shelf shelf_new : Option Shelf) (old new : Option Tray) → IfOk r (SuitsWords words)
-    → IfOk r (λ a. IfSome shelf (λ s. IsDue words s.holds a)) → IfOk r (Asks words shelf shelf_new) → IfOk r (λ a. Leaves (files_of words a) old new)
-    → status_of r ≡ 4 → ReadFailed words shelf shelf_new old new
-failed_file words (Ok answer.Words) shelf shelf_new old new suits is asked left four = cc four
-failed_file words (Ok (answer.Refused r)) shelf shelf_new old new suits is asked left four = cc four
-failed_file words (Ok (answer.Read f)) shelf shelf_new old new suits is asked left four = read_file words f shelf shelf_new old new suits is asked left
-failed_file words (Ok (answer.Fit r)) shelf shelf_new old new suits is asked left four = cc four
-failed_file words (Err fault_out.Failed) shelf shelf_new old new suits is asked left four = cc four
-failed_file words (Err fault_out.NoMemory) shelf shelf_new old new suits is asked left four = cc four
+pub settled : (words : List (List ℕ)) (shelf : Option Shelf) (r : Run) → IfOk r (Suits words shelf) → IsSettled (status_of r) → IfSome shelf (λ s. IsDueStatus words s.holds (status_of r))
+settled words None r suits calm = tt
+settled words (Some s) (Ok a) suits calm =
+    let d = suits_due a.cause words s a suits calm.read in (d.ending, d.due, d.status_is)
+settled words (Some s) (Err fault_out.Failed) suits calm = absurd (calm.written refl)
+settled words (Some s) (Err fault_out.NoMemory) suits calm = absurd (calm.remembered refl)
+
+pub settled_report : (words : List (List ℕ)) (shelf : Option Shelf) (r : Run) (old new : Option Tray) → IfOk r (Suits words shelf) → IfOk r (λ a. Leaves (files_of words a) old new)
+    → IsSettled (status_of r) → status_of r ≢ 0 → IfSome shelf (λ s. ReportsDue words s.holds old new)
+settled_report words None r old new suits left calm some = tt
+settled_report words (Some s) (Ok a) old new suits left calm some =
+    let d = suits_due a.cause words s a suits calm.read in (d.ending, d.due, report_alone words d.ending a old new (d.alone some) left)
+settled_report words (Some s) (Err fault_out.Failed) old new suits left calm some = absurd (calm.written refl)
+settled_report words (Some s) (Err fault_out.NoMemory) old new suits left calm some = absurd (calm.remembered refl)
+
+-- ---- the names that a command writes and reads
+
+writes_for : (words : List (List ℕ)) (c : Command) → command_of words ≡ Some c → write_names words ≡ (form_in words (Some c)).writes
+writes_for words c is = ap (λ o. (form_in words o).writes) is
+
+reads_for : (words : List (List ℕ)) (o : Option Command) → command_of words ≡ o → read_names words ≡ (form_in words o).reads
+reads_for words o is = ap (λ x. (form_in words x).reads) is
+
+done_names : (c : Command) (words : List (List ℕ)) (shelf : Option Shelf) (a : Answer) → IsDone c words shelf a → names_in a.outputs.items ≡ write_names words
+done_names command.Fit words shelf a done = done.2.outputs.names_are ∙ sym (writes_for words command.Fit done.1.0)
+done_names command.Measure words shelf a done = done.2.tells.outputs.names_are ∙ sym (writes_for words command.Measure done.1.is)
+
+pub writes_names_by : (k : Cause) (words : List (List ℕ)) (shelf : Option Shelf) (a : Answer) → SuitsBy k words shelf a → WritesNames words a
+writes_names_by cause.Done words shelf a suits = inr (done_names suits.0 words shelf a suits.1)
+writes_names_by cause.Words words shelf a suits = inl suits.1.outputs
+writes_names_by (cause.Refused f) words shelf a suits = inl suits.alone.outputs
+writes_names_by (cause.Read f) words shelf a suits = inl suits.alone.outputs
+writes_names_by cause.OutOfWords words shelf a suits = inl suits.2.alone.outputs
+writes_names_by cause.TooLarge words shelf a suits = inl suits.2.alone.outputs
 
 -- an answer's outputs are the first ones of the command
-pub begun_by : (words : List (List ℕ)) (a : Answer) (old new : Option Tray) → SuitsWords words a → BeginsPrefix (targets_of words a) old new → BeginsPrefix (writes_of words) old new
-begun_by words answer.Words old new suits begun = begun_alone _ old new begun
-begun_by words (answer.Refused r) old new suits begun = begun_alone _ old new begun
-begun_by words (answer.Read f) old new suits begun = begun_alone _ old new begun
-begun_by words (answer.Fit r) old new suits begun = subst (λ names. BeginsPrefix names old new) (sym (writes_one words suits)) begun
+pub begun_by : (words : List (List ℕ)) (a : Answer) (old new : Option Tray) → WritesNames words a → BeginsPrefix (targets_of words a) old new → BeginsPrefix (writes_of words) old new
+begun_by words a old new (inl none) begun = begun_alone _ old new (subst (λ names. BeginsPrefix names old new) (no_targets words a none) begun)
+begun_by words a old new (inr all) begun = subst (λ names. BeginsPrefix names old new) (targets_written words a all) begun
 
-fit_status : (words : List (List ℕ)) (shelf : Option Shelf) (r : Fitted) → command_of words ≡ Some Fit → IfSome shelf (λ s. IsFitted words s.holds r) → IfSome shelf (λ s. (due words s.holds).status ≡ 0)
-fit_status words None r suits is = tt
-fit_status words (Some s) r suits is = ap (λ e. e.status) (due_fit words s.holds r suits is)
+-- outputs are begun only where status 0 is due
+alone_begun : (words : List (List ℕ)) (e : Ending) (a : Answer) (old new : Option Tray) → ReportsAlone e a → BeginsPrefix (targets_of words a) old new → BeginsPrefix [] old new
+alone_begun words e a old new alone begun = subst (λ names. BeginsPrefix names old new) (no_targets words a alone.outputs) begun
 
--- outputs are begun only for tables that are due
-pub begun_when_due : (words : List (List ℕ)) (a : Answer) (shelf : Option Shelf) (before now : ℕ) (old new : Option Tray) → SuitsWords words a → IfSome shelf (λ s. IsDue words s.holds a)
-    → CountsAnswer before now a → BeginsPrefix (targets_of words a) old new → BeginsWhenDue words shelf before now old new
-begun_when_due words answer.Words shelf before now old new suits is count begun = inl begun
-begun_when_due words (answer.Refused r) shelf before now old new suits is count begun = inl begun
-begun_when_due words (answer.Read f) shelf before now old new suits is count begun = inl begun
-begun_when_due words (answer.Fit r) shelf before now old new suits is count begun = inr (count, fit_status words shelf r suits is)
+done_status : (words : List (List ℕ)) (shelf : Option Shelf) (a : Answer) → SuitsBy cause.Done words shelf a → IfSome shelf (λ s. IsDueStatus words s.holds 0)
+done_status words None a suits = tt
+done_status words (Some s) a suits = let d = done_due suits.0 words s a suits.1 in (d.ending, d.due, d.status_is)
+
+pub begun_when_due : (k : Cause) (words : List (List ℕ)) (shelf : Option Shelf) (a : Answer) (before now : ℕ) (old new : Option Tray) → SuitsBy k words shelf a → CountsBy k before now
+    → BeginsPrefix (targets_of words a) old new → BeginsWhenDue words shelf before now old new
+begun_when_due cause.Done words shelf a before now old new suits count begun = inr (count, done_status words shelf a suits)
+begun_when_due cause.Words words shelf a before now old new suits count begun = inl (alone_begun words _ a old new suits.1 begun)
+begun_when_due (cause.Refused f) words shelf a before now old new suits count begun = inl (alone_begun words _ a old new suits.alone begun)
+begun_when_due (cause.Read f) words shelf a before now old new suits count begun = inl (alone_begun words _ a old new suits.alone begun)
+begun_when_due cause.OutOfWords words shelf a before now old new suits count begun = inl (alone_begun words _ a old new suits.2.alone begun)
+begun_when_due cause.TooLarge words shelf a before now old new suits count begun = inl (alone_begun words _ a old new suits.2.alone begun)
+
+-- ---- what a run with status 0 wrote
+
+paths_for : (words : List (List ℕ)) (c : Command) → command_of words ≡ Some c → values_in (pairs_after words) (form_in words (Some c)).writes ≡ writes_of words
+paths_for words c is = ap (values_in (pairs_after words)) (sym (writes_for words c is))
+
+wrote_tables : (words : List (List ℕ)) (s : Shelf) (a : Answer) (old new : Option Tray) (i : Inputs) → HasInputs words (Some s) i → IsFitted i a → Leaves (files_of words a) old new
+    → FitWrote words s.holds old new
+wrote_tables words s a old new i has fitted left = record {
+  inputs = i;
+  accepted = has.1;
+  tables = fitted.tables;
+  attained = fitted.attained;
+  written = subst (λ paths. Leaves (whole (slice_index_or paths 0 []) (tables_text i.schema i.spine fitted.tables) ∷ whole dash (fit_ending i.spine).report ∷ []) old new)
+      (paths_for words command.Fit has.0)
+      (subst (λ files. Leaves files old new) (files_are words _ _ _ a fitted.outputs fitted.report) left);
+}
+
+wrote_measured : (words : List (List ℕ)) (s : Shelf) (a : Answer) (old new : Option Tray) (v : Survey) → HasSurvey words (Some s) v → IsMeasured v a → Leaves (files_of words a) old new
+    → MeasureWrote words s.holds old new
+wrote_measured words s a old new v has made left = record {
+  survey = v;
+  accepted = has.held;
+  measurements = made.measurements;
+  taken = made.taken;
+  measured = made.measured;
+  written = subst (λ paths. Leaves
+      (whole (slice_index_or paths 0 []) (measurements_text v.schema v.spine made.measurements)
+      ∷ whole (slice_index_or paths 1 []) (totals_text v.spine (state_counts v.spine v.records))
+      ∷ whole (slice_index_or paths 2 []) (ledger_text v.schema)
+      ∷ whole dash (measured_ending v.schema v.spine made.taken).report ∷ []) old new)
+      (paths_for words command.Measure has.is)
+      (subst (λ files. Leaves files old new) (files_are words _ _ _ a made.tells.outputs made.tells.report) left);
+}
+
+done_fit : (c : Command) (words : List (List ℕ)) (s : Shelf) (a : Answer) (old new : Option Tray) → IsDone c words (Some s) a → Leaves (files_of words a) old new → command_of words ≡ Some command.Fit
+    → FitWrote words s.holds old new
+done_fit command.Fit words s a old new done left is = wrote_tables words s a old new done.0 done.1 done.2 left
+done_fit command.Measure words s a old new done left is = cc (is, done.1.is)
+
+done_measure : (c : Command) (words : List (List ℕ)) (s : Shelf) (a : Answer) (old new : Option Tray) → IsDone c words (Some s) a → Leaves (files_of words a) old new → command_of words ≡ Some command.Measure
+    → MeasureWrote words s.holds old new
+done_measure command.Fit words s a old new done left is = cc (is, done.1.0)
+done_measure command.Measure words s a old new done left is = wrote_measured words s a old new done.0 done.1 done.2 left
+
+fit_wrote_by : (k : Cause) (words : List (List ℕ)) (s : Shelf) (a : Answer) (old new : Option Tray) → SuitsBy k words (Some s) a → Leaves (files_of words a) old new → status_by k ≡ 0
+    → command_of words ≡ Some command.Fit → FitWrote words s.holds old new
+fit_wrote_by cause.Done words s a old new suits left zero is = done_fit suits.0 words s a old new suits.1 left is
+fit_wrote_by cause.Words words s a old new suits left zero is = cc zero
+fit_wrote_by (cause.Refused f) words s a old new suits left zero is = cc zero
+fit_wrote_by (cause.Read f) words s a old new suits left zero is = cc zero
+fit_wrote_by cause.OutOfWords words s a old new suits left zero is = cc zero
+fit_wrote_by cause.TooLarge words s a old new suits left zero is = cc zero
+
+measure_wrote_by : (k : Cause) (words : List (List ℕ)) (s : Shelf) (a : Answer) (old new : Option Tray) → SuitsBy k words (Some s) a → Leaves (files_of words a) old new → status_by k ≡ 0
+    → command_of words ≡ Some command.Measure → MeasureWrote words s.holds old new
+measure_wrote_by cause.Done words s a old new suits left zero is = done_measure suits.0 words s a old new suits.1 left is
+measure_wrote_by cause.Words words s a old new suits left zero is = cc zero
+measure_wrote_by (cause.Refused f) words s a old new suits left zero is = cc zero
+measure_wrote_by (cause.Read f) words s a old new suits left zero is = cc zero
+measure_wrote_by cause.OutOfWords words s a old new suits left zero is = cc zero
+measure_wrote_by cause.TooLarge words s a old new suits left zero is = cc zero
+
+pub fit_wrote : (words : List (List ℕ)) (shelf : Option Shelf) (r : Run) (old new : Option Tray) → IfOk r (Suits words shelf) → IfOk r (λ a. Leaves (files_of words a) old new)
+    → status_of r ≡ 0 → command_of words ≡ Some command.Fit → IfSome shelf (λ s. FitWrote words s.holds old new)
+fit_wrote words None r old new suits left zero is = tt
+fit_wrote words (Some s) (Ok a) old new suits left zero is = fit_wrote_by a.cause words s a old new suits left zero is
+fit_wrote words (Some s) (Err fault_out.Failed) old new suits left zero is = cc zero
+fit_wrote words (Some s) (Err fault_out.NoMemory) old new suits left zero is = cc zero
+
+pub measure_wrote : (words : List (List ℕ)) (shelf : Option Shelf) (r : Run) (old new : Option Tray) → IfOk r (Suits words shelf) → IfOk r (λ a. Leaves (files_of words a) old new)
+    → status_of r ≡ 0 → command_of words ≡ Some command.Measure → IfSome shelf (λ s. MeasureWrote words s.holds old new)
+measure_wrote words None r old new suits left zero is = tt
+measure_wrote words (Some s) (Ok a) old new suits left zero is = measure_wrote_by a.cause words s a old new suits left zero is
+measure_wrote words (Some s) (Err fault_out.Failed) old new suits left zero is = cc zero
+measure_wrote words (Some s) (Err fault_out.NoMemory) old new suits left zero is = cc zero
+
+wrote_all : (words : List (List ℕ)) (a : Answer) (old new : Option Tray) → names_in a.outputs.items ≡ write_names words → Leaves (files_of words a) old new → LeavesAll (writes_of words) old new
+wrote_all words a old new names left = record {
+  texts = texts_in a.outputs.items;
+  each = length-map a.outputs.items (λ o. o.text.items) ∙ sym (length-map a.outputs.items (target_of words)) ∙ ap length (targets_written words a names);
+  report = a.report.items;
+  written = subst (λ files. Leaves files old new) (ap (λ fs. fs ++ whole dash a.report.items ∷ []) (written_outputs words a names)) left;
+}
+
+all_written_by : (k : Cause) (words : List (List ℕ)) (shelf : Option Shelf) (a : Answer) (old new : Option Tray) → SuitsBy k words shelf a → Leaves (files_of words a) old new → status_by k ≡ 0
+    → LeavesAll (writes_of words) old new
+all_written_by cause.Done words shelf a old new suits left zero = wrote_all words a old new (done_names suits.0 words shelf a suits.1) left
+all_written_by cause.Words words shelf a old new suits left zero = cc zero
+all_written_by (cause.Refused f) words shelf a old new suits left zero = cc zero
+all_written_by (cause.Read f) words shelf a old new suits left zero = cc zero
+all_written_by cause.OutOfWords words shelf a old new suits left zero = cc zero
+all_written_by cause.TooLarge words shelf a old new suits left zero = cc zero
+
+pub all_written : (words : List (List ℕ)) (shelf : Option Shelf) (r : Run) (old new : Option Tray) → IfOk r (Suits words shelf) → IfOk r (λ a. Leaves (files_of words a) old new)
+    → status_of r ≡ 0 → LeavesAll (writes_of words) old new
+all_written words shelf (Ok a) old new suits left zero = all_written_by a.cause words shelf a old new suits left zero
+all_written words shelf (Err fault_out.Failed) old new suits left zero = cc zero
+all_written words shelf (Err fault_out.NoMemory) old new suits left zero = cc zero
+
+-- ---- which words, which file, which place
+
+name_at : (words : List (List ℕ)) (f : File) → IsRead words f → slice_index_or (read_names words) (number_of f) [] ≡ name_of f
+name_at words f is = get_or_from_slice_get (read_names words) (number_of f) (name_of f) [] is
+
+refused_file : (words : List (List ℕ)) (f : File) (shelf shelf_new : Option Shelf) (a : Answer) (old new : Option Tray) → RefusesFile words shelf f a → AsksBy (cause.Refused f) words shelf shelf_new
+    → Leaves (files_of words a) old new → FileRefused words shelf shelf_new old new
+refused_file words f shelf shelf_new a old new suits asked left = record {
+  file = number_of f;
+  within = file_within words f suits.reads;
+  asked = asked;
+  fault = suits.fault;
+  of_fault = suits.of_fault;
+  refused = subst (λ name. IfSome shelf (λ s. due_task words s.holds ≡ Err (refused_ending name suits.fault))) (sym (name_at words f suits.reads)) suits.due;
+  written = subst (λ name. LeavesReport (refused_ending name suits.fault).report old new) (sym (name_at words f suits.reads)) (report_alone words _ a old new suits.alone left);
+}
+
+refused_by : (k : Cause) (words : List (List ℕ)) (shelf shelf_new : Option Shelf) (a : Answer) (old new : Option Tray) → SuitsBy k words shelf a → AsksBy k words shelf shelf_new
+    → Leaves (files_of words a) old new → status_by k ≡ 3 → FileRefused words shelf shelf_new old new
+refused_by cause.Done words shelf shelf_new a old new suits asked left three = cc three
+refused_by cause.Words words shelf shelf_new a old new suits asked left three = cc three
+refused_by (cause.Refused f) words shelf shelf_new a old new suits asked left three = refused_file words f shelf shelf_new a old new suits asked left
+refused_by (cause.Read f) words shelf shelf_new a old new suits asked left three = cc three
+refused_by cause.OutOfWords words shelf shelf_new a old new suits asked left three = cc three
+refused_by cause.TooLarge words shelf shelf_new a old new suits asked left three = cc three
+
+pub refused : (words : List (List ℕ)) (r : Run) (shelf shelf_new : Option Shelf) (old new : Option Tray) → IfOk r (Suits words shelf) → IfOk r (Asks words shelf shelf_new)
+    → IfOk r (λ a. Leaves (files_of words a) old new) → status_of r ≡ 3 → FileRefused words shelf shelf_new old new
+refused words (Ok a) shelf shelf_new old new suits asked left three = refused_by a.cause words shelf shelf_new a old new suits asked left three
+refused words (Err fault_out.Failed) shelf shelf_new old new suits asked left three = cc three
+refused words (Err fault_out.NoMemory) shelf shelf_new old new suits asked left three = cc three
+
+read_file : (words : List (List ℕ)) (f : File) (shelf shelf_new : Option Shelf) (a : Answer) (old new : Option Tray) → FailsAt words shelf f a → AsksBy (cause.Read f) words shelf shelf_new
+    → Leaves (files_of words a) old new → ReadFailed words shelf shelf_new old new
+read_file words f shelf shelf_new a old new suits asked left = record {
+  file = number_of f;
+  within = file_within words f suits.reads;
+  asked = asked;
+  accepted = subst (λ name. IfSome shelf (λ s. task_by words (failing_at (number_of f) (given_by words s.holds)) ≡ Err (read_ending name))) (sym (name_at words f suits.reads)) suits.due;
+  written = subst (λ name. LeavesReport (read_ending name).report old new) (sym (name_at words f suits.reads)) (report_alone words _ a old new suits.alone left);
+}
+
+failed_by : (k : Cause) (words : List (List ℕ)) (shelf shelf_new : Option Shelf) (a : Answer) (old new : Option Tray) → SuitsBy k words shelf a → AsksBy k words shelf shelf_new
+    → Leaves (files_of words a) old new → status_by k ≡ 4 → ReadFailed words shelf shelf_new old new
+failed_by cause.Done words shelf shelf_new a old new suits asked left four = cc four
+failed_by cause.Words words shelf shelf_new a old new suits asked left four = cc four
+failed_by (cause.Refused f) words shelf shelf_new a old new suits asked left four = cc four
+failed_by (cause.Read f) words shelf shelf_new a old new suits asked left four = read_file words f shelf shelf_new a old new suits asked left
+failed_by cause.OutOfWords words shelf shelf_new a old new suits asked left four = cc four
+failed_by cause.TooLarge words shelf shelf_new a old new suits asked left four = cc four
+
+pub failed_file : (words : List (List ℕ)) (r : Run) (shelf shelf_new : Option Shelf) (old new : Option Tray) → IfOk r (Suits words shelf) → IfOk r (Asks words shelf shelf_new)
+    → IfOk r (λ a. Leaves (files_of words a) old new) → status_of r ≡ 4 → ReadFailed words shelf shelf_new old new
+failed_file words (Ok a) shelf shelf_new old new suits asked left four = failed_by a.cause words shelf shelf_new a old new suits asked left four
+failed_file words (Err fault_out.Failed) shelf shelf_new old new suits asked left four = cc four
+failed_file words (Err fault_out.NoMemory) shelf shelf_new old new suits asked left four = cc four
+
+noise_stopped : (words : List (List ℕ)) (status : ℕ) (shelf shelf_new : Option Shelf) (a : Answer) (old new : Option Tray) (v : Survey) → HasSurvey words shelf v
+    → StopsWith v.schema v.spine v.words status a → shelf_new ≡ option_map (asks_all (reads_of words)) shelf → Leaves (files_of words a) old new → NoiseStopped words status shelf shelf_new old new
+noise_stopped words status shelf shelf_new a old new v has stops asked left = record {
+  command = has.is;
+  asked = asked;
+  survey = v;
+  accepted = has.held;
+  why = stops.why;
+  rest = stops.rest;
+  stops = stops.stops;
+  ends = stops.ends;
+  written = report_alone words _ a old new stops.alone left;
+}
+
+stopped_by : (k : Cause) (words : List (List ℕ)) (shelf shelf_new : Option Shelf) (a : Answer) (old new : Option Tray) → SuitsBy k words shelf a → AsksBy k words shelf shelf_new
+    → Leaves (files_of words a) old new → (status_by k ≡ 6) ⊎ (status_by k ≡ 7) → NoiseStopped words (status_by k) shelf shelf_new old new
+stopped_by cause.Done words shelf shelf_new a old new suits asked left (inl e) = cc e
+stopped_by cause.Done words shelf shelf_new a old new suits asked left (inr e) = cc e
+stopped_by cause.Words words shelf shelf_new a old new suits asked left (inl e) = cc e
+stopped_by cause.Words words shelf shelf_new a old new suits asked left (inr e) = cc e
+stopped_by (cause.Refused f) words shelf shelf_new a old new suits asked left (inl e) = cc e
+stopped_by (cause.Refused f) words shelf shelf_new a old new suits asked left (inr e) = cc e
+stopped_by (cause.Read f) words shelf shelf_new a old new suits asked left (inl e) = cc e
+stopped_by (cause.Read f) words shelf shelf_new a old new suits asked left (inr e) = cc e
+stopped_by cause.OutOfWords words shelf shelf_new a old new suits asked left e = noise_stopped words 6 shelf shelf_new a old new suits.0 suits.1 suits.2 asked left
+stopped_by cause.TooLarge words shelf shelf_new a old new suits asked left e = noise_stopped words 7 shelf shelf_new a old new suits.0 suits.1 suits.2 asked left
+
+not_five_stops : ¬ ((◌≡◌ {A = ℕ} 5 6) ⊎ (◌≡◌ {A = ℕ} 5 7))
+not_five_stops (inl e) = cc e
+not_five_stops (inr e) = cc e
+
+not_eight_stops : ¬ ((◌≡◌ {A = ℕ} 8 6) ⊎ (◌≡◌ {A = ℕ} 8 7))
+not_eight_stops (inl e) = cc e
+not_eight_stops (inr e) = cc e
+
+pub stopped : (words : List (List ℕ)) (r : Run) (shelf shelf_new : Option Shelf) (old new : Option Tray) → IfOk r (Suits words shelf) → IfOk r (Asks words shelf shelf_new)
+    → IfOk r (λ a. Leaves (files_of words a) old new) → (status_of r ≡ 6) ⊎ (status_of r ≡ 7) → NoiseStopped words (status_of r) shelf shelf_new old new
+stopped words (Ok a) shelf shelf_new old new suits asked left e = stopped_by a.cause words shelf shelf_new a old new suits asked left e
+stopped words (Err fault_out.Failed) shelf shelf_new old new suits asked left e = absurd (not_five_stops e)
+stopped words (Err fault_out.NoMemory) shelf shelf_new old new suits asked left e = absurd (not_eight_stops e)
+
+-- ---- what was asked for
+
+pub asks_nothing : (names : List (List ℕ)) (old new : Option Shelf) → new ≡ old → AsksPrefix names old new
+asks_nothing names old new same = subst (AsksPrefix names old) (sym same) (asks_first names 0 old old (asks_no_name names old))
+
+pub asks_up_to : (words : List (List ℕ)) (f : File) (old new : Option Shelf) → IsRead words f → new ≡ option_map (asks_all (take (number_of f + 1) (reads_of words))) old → AsksPrefix (reads_of words) old new
+asks_up_to words f old new reads asked =
+    let within = file_within words f reads in
+    record { count = number_of f + 1; within = omega arith; asked = asked }
+
+pub asks_by : (k : Cause) (words : List (List ℕ)) (shelf old new : Option Shelf) (a : Answer) → SuitsBy k words shelf a → AsksBy k words old new → AsksPrefix (reads_of words) old new
+asks_by cause.Done words shelf old new a suits asked = asks_whole _ old new asked
+asks_by cause.Words words shelf old new a suits asked = asks_nothing _ old new asked
+asks_by (cause.Refused f) words shelf old new a suits asked = asks_up_to words f old new suits.reads asked
+asks_by (cause.Read f) words shelf old new a suits asked = asks_up_to words f old new suits.reads asked
+asks_by cause.OutOfWords words shelf old new a suits asked = asks_whole _ old new asked
+asks_by cause.TooLarge words shelf old new a suits asked = asks_whole _ old new asked

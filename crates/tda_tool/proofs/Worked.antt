@@ -1,9 +1,11 @@
 -- Words of a release and the texts of faults, by the definitions alone.
-use Rattle.std.proofs.Common.{◌≡◌, [], ◌∷◌, ◌++◌, List, ℕ, refl, Some, None, codes}
+use Rattle.std.proofs.Common.{◌≡◌, [], ◌∷◌, ◌++◌, List, ℕ, refl, Some, None, Err, codes}
 use Rattle.std.specs.Fmt.{digits}
+use Rattle.tda_model.specs.Schema.{Schema}
 use Rattle.tda_model.specs.Spine.{Spine}
 use Rattle.tda_tool.specs.Words.{command_of, value_of, reads_of, writes_of}
-use Rattle.tda_tool.specs.Due.{due, words_ending, read_ending}
+use Rattle.tda_tool.specs.Ending.{words_ending, read_ending}
+use Rattle.tda_tool.specs.Due.{due_task}
 use Rattle.tda_tool.specs.Refusal.{plain_text, named_text}
 use Rattle.tda_tool.specs.declared.refusal.Plain.TheVariants as plain
 use Rattle.tda_tool.specs.declared.refusal.Named.TheVariants as named
@@ -11,7 +13,8 @@ use Rattle.tda_spine.specs.declared.fault.SpineFault.TheVariants as spine_fault
 use Rattle.tda_invar.specs.declared.fac_fault.FacFault.TheVariants as facility_fault
 use Rattle.tda_invar.specs.declared.tot_fault.TotFault.TheVariants as total_fault
 use Rattle.tda_invar.specs.declared.join_fault.JoinFault.TheVariants as join_fault
-use Rattle.tda_tool.specs.declared.words.Command.TheVariants.{Fit}
+use Rattle.tda_hist.specs.declared.fault.HistFault.TheVariants as hist_fault
+use Rattle.tda_tool.specs.declared.words.Command.TheVariants.{Fit, Measure}
 
 abbrev pair : List ℕ → List ℕ → List (List ℕ)
 pair name value = name ∷ value ∷ []
@@ -75,14 +78,23 @@ a_word_left_over : command_of (fit (pair (codes "--tables") (codes "e")) ++ code
 a_word_left_over = refl
 
 -- what is due without words, and where nothing can be read
-due_without_words : due [] (λ name. None) ≡ words_ending
+due_without_words : due_task [] (λ name. None) ≡ Err words_ending
 due_without_words = refl
 
-due_without_files : due words (λ name. None) ≡ read_ending (codes "schema")
+due_without_files : due_task words (λ name. None) ≡ Err (read_ending (codes "schema"))
 due_without_files = refl
 
 abbrev units : Spine
 units = record { depth = 3; units = record { code = codes "US"; level = 0; parent = None } ∷ record { code = codes "S1"; level = 1; parent = Some 0 } ∷ record { code = codes "S2"; level = 1; parent = Some 0 } ∷ [] }
+
+abbrev kinds : Schema
+kinds = record {
+  total = record { num = 1; den = 1 };
+  attributes = record { name = codes "kind"; values = codes "house" ∷ codes "dorm" ∷ [] } ∷ [];
+  recodes = [];
+  zeros = [];
+  levels = [];
+}
 
 -- faults as they are printed: a unit of the spine by its row, a state by its code
 childless : plain_text (plain.Spine (spine_fault.Childless 1)) ≡ codes "Childless 3"
@@ -96,9 +108,38 @@ repeated_facility : plain_text (plain.Facilities (facility_fault.Repeated 3)) �
 unfolding digits
 repeated_facility = refl
 
-missing_state : named_text units (named.Totals (total_fault.Missing 2)) ≡ codes "Missing S2"
+missing_state : named_text kinds units (named.Totals (total_fault.Missing 2)) ≡ codes "Missing S2"
 missing_state = refl
 
-short_state : named_text units (named.Join (join_fault.Short 1 1 2)) ≡ codes "Short S1 1 2"
+short_state : named_text kinds units (named.Join (join_fault.Short 1 1 2)) ≡ codes "Short S1 1 2"
 unfolding digits
 short_state = refl
+
+no_facility : named_text kinds units (named.Hist (hist_fault.NoFacility 2 1)) ≡ codes "NoFacility S2 dorm"
+no_facility = refl
+
+short_block : named_text kinds units (named.Hist (hist_fault.Short 1 1 1 2)) ≡ codes "Short S1 dorm 1 2"
+unfolding digits
+short_block = refl
+
+-- `measure`, with words of a file or of a seed
+abbrev measure : List (List ℕ) → List (List ℕ)
+measure source = codes "measure" ∷ schema ++ spine ++ facilities ++ pair (codes "--records") (codes "d") ++ pair (codes "--measurements") (codes "m") ++ pair (codes "--totals") (codes "t") ++ pair (codes "--ledger") (codes "l") ++ source
+
+abbrev seed : List (List ℕ)
+seed = pair (codes "--seed") (codes "s") ++ pair (codes "--place") (codes "0")
+
+by_words : command_of (measure (pair (codes "--words") (codes "w"))) ≡ Some Measure
+by_words = refl
+
+reads_words : reads_of (measure (pair (codes "--words") (codes "w"))) ≡ codes "a" ∷ codes "b" ∷ codes "c" ∷ codes "d" ∷ codes "w" ∷ []
+reads_words = refl
+
+no_source : command_of (measure []) ≡ None
+no_source = refl
+
+both_sources : command_of (measure (pair (codes "--words") (codes "w") ++ seed)) ≡ None
+both_sources = refl
+
+no_budget : command_of (measure seed) ≡ None
+no_budget = refl

@@ -1,101 +1,210 @@
 -- What an answer says, which files it leaves, and when it is due.
-use Rattle.std.specs.Prelude.{◌≡◌, ◌<◌, ◌≤◌, ℕ, ◌+◌, codes, List, [], ◌∷◌, ◌++◌, take, Option, Some, None, option_map, slice_index_or, Result, Ok, Err}
-use Rattle.std.specs.Fmt.{decimal}
+use Rattle.std.specs.Prelude.{◌≡◌, ◌⊎◌, ◌<◌, ◌≤◌, ℕ, ℤ, ◌+◌, codes, List, [], ◌∷◌, ◌++◌, length, map, sum, take, Option, Some, None, IfSome, option_map, Result, Ok, Err}
 use Rattle.tda_io.specs.Outside.{Shelf, Written}
 use Rattle.tda_io.specs.declared.outside.NoMemory.{NoMemory}
 use Rattle.tda_io.specs.declared.outside.OutFault.{OutFault}
 use Rattle.tda_io.specs.declared.outside.OutFault.TheVariants as fault_out
+use Rattle.tda_model.specs.Bounds.{persons_limit}
+use Rattle.tda_model.specs.Schema.{Schema}
+use Rattle.tda_model.specs.Spine.{Spine}
 use Rattle.tda_model.specs.Tables.{Tables}
 use Rattle.tda_model.specs.TablesText.{tables_text}
-use Rattle.tda_model.specs.Spine.{fit_count}
+use Rattle.tda_invar.specs.Totals.{totals_text}
+use Rattle.tda_ledger.specs.LedgerText.{ledger_text}
+use Rattle.tda_places.specs.Measurements.{measurements_text}
+use Rattle.tda_out.specs.Counts.{count_at, AreCountsOf}
+use Rattle.tda_hist.specs.TrueTable.{totals_of}
+use Rattle.tda_measure.specs.Measured.{AreMeasured, HaveFewPersons}
+use Rattle.tda_measure.specs.Noise.{variances_of, IsDetermined, IsNoise, NoiseStops}
+use Rattle.tda_measure.specs.declared.stop.MeasureStop.{MeasureStop}
 use Rattle.tda_tool.specs.Attained.{Inputs, IsAttained}
-use Rattle.tda_tool.specs.Words.{command_of, reads_of, writes_of, dash}
-use Rattle.tda_tool.specs.Due.{Ending, line, words_ending, refused_ending, read_ending, inputs_from, given_by, failing_at}
+use Rattle.tda_tool.specs.Measuring.{Survey, state_counts, stop_ending, measured_ending, AreMeasurementsOf}
+use Rattle.tda_tool.specs.Words.{command_of, pairs_after, value_or_empty, reads_of, write_names, dash}
+use Rattle.tda_tool.specs.Ending.{Ending, words_ending, refused_ending, read_ending, fit_ending}
+use Rattle.tda_tool.specs.Due.{inputs_from, survey_from, given_by, failing_at, task_by, due_task}
 use Rattle.tda_tool.specs.Outcome.{whole, asks_all, AsksPrefix}
 use Rattle.tda_tool.specs.Refusal.{IsFaultText}
-use Rattle.tda_tool.specs.Reading.{name_of, number_of}
-use Rattle.tda_tool.specs.declared.words.Command.TheVariants.{Fit}
+use Rattle.tda_tool.specs.Reading.{name_of, number_of, IsRead, IsSource}
+use Rattle.tda_tool.specs.declared.words.Command.{Command}
+use Rattle.tda_tool.specs.declared.words.Command.TheVariants as command
+use Rattle.tda_tool.specs.declared.reading.File.{File}
+use Rattle.tda_tool.specs.declared.reading.Stop.{Stop}
+use Rattle.tda_tool.specs.declared.reading.Stop.TheVariants as stop
+use Rattle.tda_tool.specs.declared.counted.Counted.{Counted}
+use Rattle.tda_tool.specs.declared.answer.Cause.{Cause}
+use Rattle.tda_tool.specs.declared.answer.Cause.TheVariants as cause
+use Rattle.tda_tool.specs.declared.answer.Output.{Output}
 use Rattle.tda_tool.specs.declared.answer.Answer.{Answer}
-use Rattle.tda_tool.specs.declared.answer.Answer.TheVariants as answer
-use Rattle.tda_tool.specs.declared.answer.Fitted.{Fitted}
 
--- the status and the report of an answer
-abbrev pub ending_of : Answer → Ending
-ending_of answer.Words = words_ending
-ending_of (answer.Refused r) = refused_ending (name_of r.file) r.fault.items
-ending_of (answer.Read f) = read_ending (name_of f)
-ending_of (answer.Fit r) = record { status = 0; report = line (codes "ok fit fits=" ++ decimal r.fits) }
+abbrev pub status_by : Cause → ℕ
+status_by cause.Done = 0
+status_by cause.Words = 2
+status_by (cause.Refused f) = 3
+status_by (cause.Read f) = 4
+status_by cause.OutOfWords = 6
+status_by cause.TooLarge = 7
 
--- where the command has its tables
-abbrev pub tables_path : List (List ℕ) → List ℕ
-tables_path words = slice_index_or (writes_of words) 0 []
+-- where the command has an output
+abbrev pub target_of : List (List ℕ) → Output → List ℕ
+target_of words o = value_or_empty (pairs_after words) o.name.now
+
+abbrev pub targets_of : List (List ℕ) → Answer → List (List ℕ)
+targets_of words a = map (target_of words) a.outputs.items
 
 -- the outputs of an answer, all whole
 abbrev pub outputs_of : List (List ℕ) → Answer → List Written
-outputs_of words (answer.Fit r) = whole (tables_path words) r.tables.items ∷ []
-outputs_of words answer.Words = []
-outputs_of words (answer.Refused r) = []
-outputs_of words (answer.Read f) = []
+outputs_of words a = map (λ o. whole (target_of words o) o.text.items) a.outputs.items
+
+-- an answer has no outputs, or those that the words' command writes
+abbrev pub WritesNames : List (List ℕ) → Answer → Type 0
+WritesNames words a = (a.outputs.items ≡ []) ⊎ (map (λ o. o.name.now) a.outputs.items ≡ write_names words)
 
 -- the outputs and then the report
 abbrev pub files_of : List (List ℕ) → Answer → List Written
-files_of words a = outputs_of words a ++ whole dash (ending_of a).report ∷ []
+files_of words a = outputs_of words a ++ whole dash a.report.items ∷ []
 
--- the names of the outputs
-abbrev pub targets_of : List (List ℕ) → Answer → List (List ℕ)
-targets_of words (answer.Fit r) = tables_path words ∷ []
-targets_of words answer.Words = []
-targets_of words (answer.Refused r) = []
-targets_of words (answer.Read f) = []
+-- the output of a name, with this text
+pub record IsOutput (name text : List ℕ) (o : Output) : Type 0 where
+  pub name_is : o.name.now ≡ name
+  pub text_is : o.text.items ≡ text
+
+-- the outputs have these names, and these texts
+pub record AreOutputs (names texts : List (List ℕ)) (a : Answer) : Type 0 where
+  pub names_are : map (λ o. o.name.now) a.outputs.items ≡ names
+  pub texts_are : map (λ o. o.text.items) a.outputs.items ≡ texts
+
+-- a report alone
+pub record ReportsAlone (e : Ending) (a : Answer) : Type 0 where
+  pub outputs : a.outputs.items ≡ []
+  pub report : a.report.items ≡ e.report
 
 -- the text of tables that are attained, and the number of fits
-pub record IsMadeFrom (i : Inputs) (r : Fitted) : Type 0 where
+pub record IsFitted (i : Inputs) (a : Answer) : Type 0 where
   pub tables : Tables
   pub attained : IsAttained i tables
-  pub text : r.tables.items ≡ tables_text i.schema i.spine tables
-  pub fits : r.fits ≡ fit_count i.spine
+  pub outputs : AreOutputs (codes "tables" ∷ []) (tables_text i.schema i.spine tables ∷ []) a
+  pub report : a.report.items ≡ (fit_ending i.spine).report
 
--- the same over what the inbox holds
-pub record IsFitted (words : List (List ℕ)) (holds : List ℕ → Option (List ℕ)) (r : Fitted) : Type 0 where
-  pub inputs : Inputs
-  pub accepted : inputs_from (given_by words holds) ≡ Ok inputs
-  pub made : IsMadeFrom inputs r
+-- the files of measurements, totals and ledger, and the line that tells of them
+pub record Tells (s : Schema) (sp : Spine) (m : List ℤ) (totals : List ℕ) (taken : ℕ) (a : Answer) : Type 0 where
+  pub outputs : AreOutputs (codes "measurements" ∷ codes "totals" ∷ codes "ledger" ∷ []) (measurements_text s sp m ∷ totals_text sp totals ∷ ledger_text s ∷ []) a
+  pub report : a.report.items ≡ (measured_ending s sp taken).report
 
--- the words are those of a command, or not, as the answer says, and a refusal tells a fault
-abbrev pub SuitsWords : List (List ℕ) → Answer → Type 0
-SuitsWords words answer.Words = command_of words ≡ None
-SuitsWords words (answer.Refused r) = (command_of words ≡ Some Fit) × IsFaultText r.fault.items
-SuitsWords words (answer.Read f) = command_of words ≡ Some Fit
-SuitsWords words (answer.Fit r) = command_of words ≡ Some Fit
+-- what is measured of these tables with these words
+pub record MeasuresWith (c : Counted) (words : List ℕ) (a : Answer) : Type 0 where
+  pub measurements : List ℤ
+  pub rest : List ℕ
+  pub taken : ℕ
+  pub measured : AreMeasured c.schema c.spine (count_at c.tables) words measurements rest
+  pub taken_are : taken + length rest ≡ length words
+  pub tells : Tells c.schema c.spine measurements (totals_of c.schema c.spine (count_at c.tables)) taken a
 
--- the answer is due for what the inbox holds, but for a read that failed
-abbrev pub IsDue : List (List ℕ) → (List ℕ → Option (List ℕ)) → Answer → Type 0
-IsDue words holds answer.Words = Unit {0}
-IsDue words holds (answer.Refused r) = inputs_from (given_by words holds) ≡ Err (refused_ending (name_of r.file) r.fault.items)
-IsDue words holds (answer.Read f) = inputs_from (failing_at (number_of f) (given_by words holds)) ≡ Err (read_ending (name_of f))
-IsDue words holds (answer.Fit r) = IsFitted words holds r
+-- the noise on these words stops, with this status
+pub record StopsWith (s : Schema) (sp : Spine) (words : List ℕ) (status : ℕ) (a : Answer) : Type 0 where
+  pub why : MeasureStop
+  pub rest : List ℕ
+  pub stops : NoiseStops (variances_of s sp) words why rest
+  pub ends : (stop_ending s sp why).status ≡ status
+  pub alone : ReportsAlone (stop_ending s sp why) a
+
+-- the answer to what the noise comes to, by its cause
+abbrev pub AnswersBy : Cause → Counted → List ℕ → Answer → Type 0
+AnswersBy cause.Done c words a = MeasuresWith c words a
+AnswersBy cause.OutOfWords c words a = StopsWith c.schema c.spine words 6 a
+AnswersBy cause.TooLarge c words a = StopsWith c.schema c.spine words 7 a
+AnswersBy _ c words a = ⊥
+
+abbrev pub AnswersNoise : Counted → List ℕ → Answer → Type 0
+AnswersNoise c words a = AnswersBy a.cause c words a
+
+-- counts that can be measured, and words to do so
+pub record CanBeMeasured (c : Counted) : Type 0 where
+  pub belong : c.spine.depth ≡ length c.schema.levels
+  pub sized : AreCountsOf c.schema c.spine c.tables
+  pub few : HaveFewPersons c.schema c.spine (count_at c.tables)
+  pub few_in_states : sum (totals_of c.schema c.spine (count_at c.tables)) ≤ persons_limit
+  pub noise : IsSource c.noise
+
+-- what is measured of a survey
+pub record IsMeasured (v : Survey) (a : Answer) : Type 0 where
+  pub measurements : List ℤ
+  pub taken : ℕ
+  pub measured : AreMeasurementsOf v measurements taken
+  pub tells : Tells v.schema v.spine measurements (state_counts v.spine v.records) taken a
+
+-- the inputs, or the survey, that the inbox holds
+abbrev pub HasInputs : List (List ℕ) → Option Shelf → Inputs → Type 0
+HasInputs words shelf i = (command_of words ≡ Some command.Fit) × IfSome shelf (λ s. inputs_from (given_by words s.holds) ≡ Ok i)
+
+-- and the noise on each list of words comes to exactly one thing
+pub record HasSurvey (words : List (List ℕ)) (shelf : Option Shelf) (v : Survey) : Type 0 where
+  pub is : command_of words ≡ Some command.Measure
+  pub held : IfSome shelf (λ s. survey_from words (given_by words s.holds) ≡ Ok v)
+  pub one : IsDetermined (IsNoise (variances_of v.schema v.spine))
+
+-- what a command that is done has made
+abbrev pub IsDone : Command → List (List ℕ) → Option Shelf → Answer → Type 0
+IsDone command.Fit words shelf a = (i : Inputs) × HasInputs words shelf i × IsFitted i a
+IsDone command.Measure words shelf a = (v : Survey) × HasSurvey words shelf v × IsMeasured v a
+
+-- a file is refused
+pub record RefusesFile (words : List (List ℕ)) (shelf : Option Shelf) (f : File) (a : Answer) : Type 0 where
+  pub reads : IsRead words f
+  pub fault : List ℕ
+  pub of_fault : IsFaultText fault
+  pub due : IfSome shelf (λ s. due_task words s.holds ≡ Err (refused_ending (name_of f) fault))
+  pub alone : ReportsAlone (refused_ending (name_of f) fault) a
+
+-- a file can't be read
+pub record FailsAt (words : List (List ℕ)) (shelf : Option Shelf) (f : File) (a : Answer) : Type 0 where
+  pub reads : IsRead words f
+  pub due : IfSome shelf (λ s. task_by words (failing_at (number_of f) (given_by words s.holds)) ≡ Err (read_ending (name_of f)))
+  pub alone : ReportsAlone (read_ending (name_of f)) a
+
+-- the answer is the one to what the words ask for and the inbox holds, by its cause
+abbrev pub SuitsBy : Cause → List (List ℕ) → Option Shelf → Answer → Type 0
+SuitsBy cause.Done words shelf a = (c : Command) × IsDone c words shelf a
+SuitsBy cause.Words words shelf a = (command_of words ≡ None) × ReportsAlone words_ending a
+SuitsBy (cause.Refused f) words shelf a = RefusesFile words shelf f a
+SuitsBy (cause.Read f) words shelf a = FailsAt words shelf f a
+SuitsBy cause.OutOfWords words shelf a = (v : Survey) × HasSurvey words shelf v × StopsWith v.schema v.spine v.words 6 a
+SuitsBy cause.TooLarge words shelf a = (v : Survey) × HasSurvey words shelf v × StopsWith v.schema v.spine v.words 7 a
+
+abbrev pub Suits : List (List ℕ) → Option Shelf → Answer → Type 0
+Suits words shelf a = SuitsBy a.cause words shelf a
+
+-- what stops the reading, as an answer
+abbrev pub AnswersStop : Stop → Answer → Type 0
+AnswersStop (stop.Read f) a = (a.cause ≡ cause.Read f) × ReportsAlone (read_ending (name_of f)) a
+AnswersStop (stop.Refused r) a = (a.cause ≡ cause.Refused r.file) × ReportsAlone (refused_ending (name_of r.file) r.fault.items) a
+AnswersStop stop.NoMemory a = ⊥
 
 -- each file was asked for once, in order, up to the one that stops
+abbrev pub AsksBy : Cause → List (List ℕ) → Option Shelf → Option Shelf → Type 0
+AsksBy cause.Words words old new = new ≡ old
+AsksBy (cause.Refused f) words old new = new ≡ option_map (asks_all (take (number_of f + 1) (reads_of words))) old
+AsksBy (cause.Read f) words old new = new ≡ option_map (asks_all (take (number_of f + 1) (reads_of words))) old
+AsksBy _ words old new = new ≡ option_map (asks_all (reads_of words)) old
+
 abbrev pub Asks : List (List ℕ) → Option Shelf → Option Shelf → Answer → Type 0
-Asks words old new answer.Words = new ≡ old
-Asks words old new (answer.Refused r) = new ≡ option_map (asks_all (take (number_of r.file + 1) (reads_of words))) old
-Asks words old new (answer.Read f) = new ≡ option_map (asks_all (take (number_of f + 1) (reads_of words))) old
-Asks words old new (answer.Fit r) = new ≡ option_map (asks_all (reads_of words)) old
+Asks words old new a = AsksBy a.cause words old new
 
 abbrev pub AsksPrepared : List (List ℕ) → Option Shelf → Option Shelf → Result Answer NoMemory → Type 0
 AsksPrepared words old new (Ok a) = Asks words old new a
 AsksPrepared words old new (Err e) = AsksPrefix (reads_of words) old new
 
 -- the inbox failed exactly at the answer that says so
+abbrev pub CountsBy : Cause → ℕ → ℕ → Type 0
+CountsBy (cause.Read f) before now = before < now
+CountsBy _ before now = now ≡ before
+
 abbrev pub CountsAnswer : ℕ → ℕ → Answer → Type 0
-CountsAnswer before now (answer.Read f) = before < now
-CountsAnswer before now answer.Words = now ≡ before
-CountsAnswer before now (answer.Refused r) = now ≡ before
-CountsAnswer before now (answer.Fit r) = now ≡ before
+CountsAnswer before now a = CountsBy a.cause before now
 
 abbrev pub CountsPrepared : ℕ → ℕ → Result Answer NoMemory → Type 0
 CountsPrepared before now (Ok a) = CountsAnswer before now a
-CountsPrepared before now (Err e) = now ≡ before
+-- a failed read whose report wants memory has raised the count
+CountsPrepared before now (Err e) = before ≤ now
 
 abbrev pub CountsRun : ℕ → ℕ → Result Answer OutFault → Type 0
 CountsRun before now (Ok a) = CountsAnswer before now a
@@ -103,6 +212,6 @@ CountsRun before now (Err e) = before ≤ now
 
 -- the status of a run
 abbrev pub status_of : Result Answer OutFault → ℕ
-status_of (Ok a) = (ending_of a).status
+status_of (Ok a) = status_by a.cause
 status_of (Err fault_out.Failed) = 5
 status_of (Err fault_out.NoMemory) = 8

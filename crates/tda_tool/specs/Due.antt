@@ -1,85 +1,112 @@
 -- How the program is due to end, and its report, by its words and what the inbox holds.
-use Rattle.std.specs.Prelude.{ℕ, ◌^◌, ◌==◌, if◌then◌else◌, codes, List, [], ◌∷◌, ◌++◌, length, nat_lt, slice_index_or, Option, Some, None, Result, Ok, Err}
-use Rattle.std.specs.Fmt.{decimal}
+use Rattle.std.specs.Prelude.{ℕ, ◌≡◌, ◌≢◌, ◌==◌, if◌then◌else◌, codes, List, [], slice_index_or, Option, Some, None, Result, Ok, Err}
 use Rattle.tda_io.specs.Due.{◌>>=◌}
-use Rattle.tda_model.specs.Spine as model
-use Rattle.tda_model.specs.Spine.{fit_count}
 use Rattle.tda_schema.specs.Read as schema
 use Rattle.tda_spine.specs.Judged as spine
 use Rattle.tda_invar.specs.Facilities as facilities
 use Rattle.tda_invar.specs.Totals as totals
 use Rattle.tda_invar.specs.Known.{known, join_due}
+use Rattle.tda_records.specs.Records as records
+use Rattle.tda_records.specs.declared.records.Record.{Record}
+use Rattle.tda_hist.specs.TrueTable.{true_count}
+use Rattle.tda_hist.specs.Agreement.{agree_due}
 use Rattle.tda_tool.specs.Attained.{Inputs}
-use Rattle.tda_tool.specs.Words.{command_of, reads_of}
-use Rattle.tda_tool.specs.Refusal.{schema_text, spine_text, facilities_text, totals_text, join_text, plain_text}
-use Rattle.tda_tool.specs.declared.words.Command.TheVariants.{Fit}
-use Rattle.tda_tool.specs.declared.refusal.Plain.TheVariants.{TooLong}
+use Rattle.tda_tool.specs.Measuring.{Survey, noise_from, MeasureEnds}
+use Rattle.tda_tool.specs.Words.{command_of, reads_of, source_of}
+use Rattle.tda_tool.specs.Ending.{Ending, words_ending, fit_ending, or_refused, judged_file}
+use Rattle.tda_tool.specs.Refusal.{schema_text, spine_text, facilities_text, totals_text, join_text, records_text, hist_text}
+use Rattle.tda_tool.specs.declared.base.Base.{Base}
+use Rattle.tda_tool.specs.declared.words.Command.{Command}
+use Rattle.tda_tool.specs.declared.words.Command.TheVariants as command
 
--- a status and a report
-pub record Ending : Type 0 where
-  pub status : ℕ
-  pub report : List ℕ
-
-abbrev pub line : List ℕ → List ℕ
-line text = text ++ 10 ∷ []
-
-abbrev pub words_ending : Ending
-words_ending = record { status = 2; report = line (codes "words") }
-
--- a file wasn't accepted, with the text of its fault
-abbrev pub refused_ending : List ℕ → List ℕ → Ending
-refused_ending file fault = record { status = 3; report = line (codes "refused " ++ file ++ 32 ∷ fault) }
-
--- a file couldn't be read
-abbrev pub read_ending : List ℕ → Ending
-read_ending file = record { status = 4; report = line (codes "read " ++ file) }
-
-abbrev pub fit_ending : model.Spine → Ending
-fit_ending sp = record { status = 0; report = line (codes "ok fit fits=" ++ decimal (fit_count sp)) }
-
--- the longest file that is read
-abbrev pub file_limit : ℕ
-file_limit = 2 ^ 28
-
--- what was judged, or how the program ends: the file is refused with the text of the fault
-abbrev pub or_refused : {A F : Type 0} → List ℕ → (F → List ℕ) → Result A F → Result A Ending
-or_refused file text (Ok x) = Ok x
-or_refused file text (Err f) = Err (refused_ending file (text f))
-
--- What a file is, by the bytes that the read gave, or how the program ends: a read that failed gave none, and a file that isn't accepted
--- is too long, or has the fault that it is read with.
-abbrev pub judged_file : {A F : Type 0} → List ℕ → (F → List ℕ) → (List ℕ → Result A F) → Option (List ℕ) → Result A Ending
-judged_file file text read None = Err (read_ending file)
-judged_file file text read (Some bytes) =
-    if nat_lt file_limit (length bytes) then Err (refused_ending file (plain_text TooLong)) else or_refused file text (read bytes)
-
--- The inputs of `fit`, each judged before the next is read, or how the program ends. given n: what the read of file n gave.
--- That the totals suffice for the facilities is judged with the totals.
-abbrev pub inputs_from : (ℕ → Option (List ℕ)) → Result Inputs Ending
-inputs_from given = do
-  s ← judged_file (codes "schema") schema_text schema.read (given 0)
-  sp ← judged_file (codes "spine") spine_text (spine.read s) (given 1)
-  f ← judged_file (codes "facilities") facilities_text (facilities.read s sp) (given 2)
-  t ← judged_file (codes "totals") (totals_text sp) (totals.read sp) (given 3)
-  _ ← or_refused (codes "totals") (join_text sp) (join_due s sp (known sp f t))
-  Ok (record { schema = s; spine = sp; facilities = f; totals = t })
+-- what the reads of a command's files gave, by number: a read that failed gave nothing
+abbrev pub Given : Type 0
+Given = ℕ → Option (List ℕ)
 
 -- what the reads of the command's files give where none fails
-abbrev pub given_by : List (List ℕ) → (List ℕ → Option (List ℕ)) → ℕ → Option (List ℕ)
+abbrev pub given_by : List (List ℕ) → (List ℕ → Option (List ℕ)) → Given
 given_by words holds n = holds (slice_index_or (reads_of words) n [])
 
 -- the same where the read of file k fails
-abbrev pub failing_at : ℕ → (ℕ → Option (List ℕ)) → ℕ → Option (List ℕ)
+abbrev pub failing_at : ℕ → Given → Given
 failing_at k given n = if n == k then None else given n
 
-abbrev pub fit_due : Result Inputs Ending → Ending
-fit_due (Ok i) = fit_ending i.spine
-fit_due (Err e) = e
+-- In what follows each file is judged before the next is read.
 
--- the ending that is due by what the reads give
-abbrev pub due_by : List (List ℕ) → (ℕ → Option (List ℕ)) → Ending
-due_by words given = elim (command_of words) [ None ↦ words_ending | Some Fit ↦ fit_due (inputs_from given) ]
+-- the first three files, or how the program ends
+abbrev pub base_from : Given → Result Base Ending
+base_from given = do
+  s ← judged_file (codes "schema") schema_text schema.read (given 0)
+  sp ← judged_file (codes "spine") spine_text (spine.read s) (given 1)
+  f ← judged_file (codes "facilities") facilities_text (facilities.read s sp) (given 2)
+  Ok (record { schema = s; spine = sp; facilities = f })
 
--- the ending that is due where no call of the inbox or the outbox fails
-abbrev pub due : List (List ℕ) → (List ℕ → Option (List ℕ)) → Ending
-due words holds = due_by words (given_by words holds)
+-- the totals, or how the program ends: that they suffice for the facilities is judged with them
+abbrev pub totals_from : Base → Option (List ℕ) → Result (List ℕ) Ending
+totals_from b given = do
+  t ← judged_file (codes "totals") (totals_text b.spine) (totals.read b.spine) given
+  _ ← or_refused (codes "totals") (join_text b.spine) (join_due b.schema b.spine (known b.spine b.facilities t))
+  Ok t
+
+-- the records, or how the program ends: that persons and facilities agree is judged with them
+abbrev pub records_from : Base → Option (List ℕ) → Result (List Record) Ending
+records_from b given = do
+  r ← judged_file (codes "records") records_text (records.read b.schema b.spine) given
+  _ ← or_refused (codes "records") (hist_text b.schema b.spine) (agree_due b.schema b.spine b.facilities (true_count b.spine r))
+  Ok r
+
+-- the inputs of `fit`, or how the program ends
+abbrev pub inputs_from : Given → Result Inputs Ending
+inputs_from given = do
+  b ← base_from given
+  t ← totals_from b (given 3)
+  Ok (record { schema = b.schema; spine = b.spine; facilities = b.facilities; totals = t })
+
+-- what `measure` measures, or how the program ends
+abbrev pub survey_from : List (List ℕ) → Given → Result Survey Ending
+survey_from words given = do
+  b ← base_from given
+  r ← records_from b (given 3)
+  w ← noise_from words (source_of words) (given 4)
+  Ok (record { schema = b.schema; spine = b.spine; records = r; words = w })
+
+-- what is to be done
+pub data Task : Type 0 where
+  Fits : Inputs → Task
+  Measures : Survey → Task
+
+-- what a command is to do, where its files are accepted, or how the program ends
+abbrev pub task_of : Command → List (List ℕ) → Given → Result Task Ending
+task_of command.Fit words given = inputs_from given >>= (λ i. Ok (Fits i))
+task_of command.Measure words given = survey_from words given >>= (λ v. Ok (Measures v))
+
+-- what the words ask for, by what the reads give
+abbrev pub task_by : List (List ℕ) → Given → Result Task Ending
+task_by words given = elim (command_of words) [ None ↦ Err words_ending | Some c ↦ task_of c words given ]
+
+-- how a task ends
+abbrev pub TaskEnds : Task → Ending → Type 0
+TaskEnds (Fits i) e = e ≡ fit_ending i.spine
+TaskEnds (Measures v) e = MeasureEnds v e
+
+abbrev pub EndsBy : Result Task Ending → Ending → Type 0
+EndsBy (Ok task) e = TaskEnds task e
+EndsBy (Err early) e = e ≡ early
+
+-- what the words ask for, where no read fails
+abbrev pub due_task : List (List ℕ) → (List ℕ → Option (List ℕ)) → Result Task Ending
+due_task words holds = task_by words (given_by words holds)
+
+-- the ending is due where no call of the inbox or the outbox fails
+abbrev pub Due : List (List ℕ) → (List ℕ → Option (List ℕ)) → Ending → Type 0
+Due words holds e = EndsBy (due_task words holds) e
+
+-- this ending is due, every ending that is due has its status, and none but it is due where that isn't 0
+pub record IsDue (words : List (List ℕ)) (holds : List ℕ → Option (List ℕ)) (e : Ending) : Type 0 where
+  pub due : Due words holds e
+  pub status : (d : Ending) → Due words holds d → d.status ≡ e.status
+  pub report : e.status ≢ 0 → (d : Ending) → Due words holds d → d ≡ e
+
+-- this status is due, and no other one
+abbrev pub IsDueStatus : List (List ℕ) → (List ℕ → Option (List ℕ)) → ℕ → Type 0
+IsDueStatus words holds status = (e : Ending) × IsDue words holds e × (e.status ≡ status)

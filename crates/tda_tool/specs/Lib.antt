@@ -2,6 +2,8 @@ pub mod Words
 pub mod Attained
 pub mod Plain
 pub mod Refusal
+pub mod Ending
+pub mod Measuring
 pub mod Due
 pub mod Outcome
 pub mod Reading

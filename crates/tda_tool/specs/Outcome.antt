@@ -1,13 +1,21 @@
 -- What a run of the program asked for, and what it leaves in the outbox.
-use Rattle.std.specs.Prelude.{◌≡◌, ◌≢◌, ◌<◌, ◌≤◌, ◌⊎◌, ◌+◌, ◌==◌, ℕ, Bool, true, if◌then◌else◌, List, [], ◌∷◌, ◌++◌, length, take, map, slice_index_or, Option, IfSome, option_map, Ok}
+use Rattle.std.specs.Prelude.{◌≡◌, ◌≢◌, ◌<◌, ◌≤◌, ◌⊎◌, ◌+◌, ◌==◌, ℕ, ℤ, Bool, true, if◌then◌else◌, List, [], ◌∷◌, ◌++◌, length, take, map, slice_index_or, Option, Some, IfSome, option_map, Ok, Err}
 use Rattle.std.specs.List.{list_any, zip}
 use Rattle.tda_io.specs.Outside.{Shelf, Tray, Written}
 use Rattle.tda_model.specs.Tables.{Tables}
 use Rattle.tda_model.specs.TablesText.{tables_text}
+use Rattle.tda_invar.specs.Totals.{totals_text}
+use Rattle.tda_ledger.specs.LedgerText.{ledger_text}
+use Rattle.tda_places.specs.Measurements.{measurements_text}
+use Rattle.tda_measure.specs.Noise.{variances_of, NoiseStops}
+use Rattle.tda_measure.specs.declared.stop.MeasureStop.{MeasureStop}
 use Rattle.tda_tool.specs.Attained.{Inputs, IsAttained}
-use Rattle.tda_tool.specs.Words.{reads_of, writes_of, read_names, dash}
+use Rattle.tda_tool.specs.Measuring.{Survey, state_counts, stop_ending, measured_ending, AreMeasurementsOf}
+use Rattle.tda_tool.specs.Words.{command_of, reads_of, writes_of, read_names, dash}
+use Rattle.tda_tool.specs.declared.words.Command.TheVariants.{Measure}
 use Rattle.tda_tool.specs.Refusal.{IsFaultText}
-use Rattle.tda_tool.specs.Due.{inputs_from, given_by, failing_at, due_by, due, fit_ending, read_ending, refused_ending}
+use Rattle.tda_tool.specs.Ending.{Ending, fit_ending, read_ending, refused_ending}
+use Rattle.tda_tool.specs.Due.{inputs_from, survey_from, given_by, failing_at, task_by, due_task, IsDue, IsDueStatus}
 
 -- a file with all its bytes, ended
 abbrev pub whole : List ℕ → List ℕ → Written
@@ -36,7 +44,7 @@ IsEmpty t = t.files ≡ []
 
 -- the statuses that the program ends with
 abbrev pub is_status : ℕ → Bool
-is_status status = list_any (λ s. status == s) (0 ∷ 2 ∷ 3 ∷ 4 ∷ 5 ∷ 8 ∷ [])
+is_status status = list_any (λ s. status == s) (0 ∷ 2 ∷ 3 ∷ 4 ∷ 5 ∷ 6 ∷ 7 ∷ 8 ∷ [])
 
 -- no object failed, memory sufficed: the status is neither 4, 5 nor 8
 pub record IsSettled (status : ℕ) : Type 0 where
@@ -72,6 +80,10 @@ pub record LeavesAll (names : List (List ℕ)) (old new : Option Tray) : Type 0 
   pub report : List ℕ
   pub written : Leaves (map (λ p. whole p.0 p.1) (zip names texts) ++ whole dash report ∷ []) old new
 
+-- Nothing but the report of the one ending that is due was begun.
+abbrev pub ReportsDue : List (List ℕ) → (List ℕ → Option (List ℕ)) → Option Tray → Option Tray → Type 0
+ReportsDue words holds old new = (e : Ending) × IsDue words holds e × LeavesReport e.report old new
+
 -- One of the command's files isn't accepted: the files before it were, the names asked for are those up to it,
 -- and nothing but the report of it and of its fault was begun.
 pub record FileRefused (words : List (List ℕ)) (shelf shelf_new : Option Shelf) (old new : Option Tray) : Type 0 where
@@ -80,13 +92,13 @@ pub record FileRefused (words : List (List ℕ)) (shelf shelf_new : Option Shelf
   pub asked : shelf_new ≡ option_map (asks_all (take (file + 1) (reads_of words))) shelf
   pub fault : List ℕ
   pub of_fault : IsFaultText fault
-  pub refused : IfSome shelf (λ s. due words s.holds ≡ refused_ending (slice_index_or (read_names words) file []) fault)
+  pub refused : IfSome shelf (λ s. due_task words s.holds ≡ Err (refused_ending (slice_index_or (read_names words) file []) fault))
   pub written : LeavesReport (refused_ending (slice_index_or (read_names words) file []) fault).report old new
 
--- Outputs are begun only where no file was refused and no read failed.
+-- Outputs are begun only where status 0 is due, and no other one, and no read failed.
 abbrev pub BeginsWhenDue : List (List ℕ) → Option Shelf → ℕ → ℕ → Option Tray → Option Tray → Type 0
 BeginsWhenDue words shelf before now old new =
-    BeginsPrefix [] old new ⊎ ((now ≡ before) × IfSome shelf (λ s. (due words s.holds).status ≡ 0))
+    BeginsPrefix [] old new ⊎ ((now ≡ before) × IfSome shelf (λ s. IsDueStatus words s.holds 0))
 
 -- The read of one of the command's files failed: the files before it were accepted, the names asked for
 -- are those up to it, and nothing but the report of it was begun.
@@ -94,7 +106,7 @@ pub record ReadFailed (words : List (List ℕ)) (shelf shelf_new : Option Shelf)
   pub file : ℕ
   pub within : file < length (reads_of words)
   pub asked : shelf_new ≡ option_map (asks_all (take (file + 1) (reads_of words))) shelf
-  pub accepted : IfSome shelf (λ s. due_by words (failing_at file (given_by words s.holds)) ≡ read_ending (slice_index_or (read_names words) file []))
+  pub accepted : IfSome shelf (λ s. task_by words (failing_at file (given_by words s.holds)) ≡ Err (read_ending (slice_index_or (read_names words) file [])))
   pub written : LeavesReport (read_ending (slice_index_or (read_names words) file [])).report old new
 
 -- `fit` wrote the text of tables that are attained over the files that the inbox holds, and its report, and nothing else.
@@ -106,3 +118,28 @@ pub record FitWrote (words : List (List ℕ)) (holds : List ℕ → Option (List
   pub written : Leaves
       (whole (slice_index_or (writes_of words) 0 []) (tables_text inputs.schema inputs.spine tables)
       ∷ whole dash (fit_ending inputs.spine).report ∷ []) old new
+
+-- The noise of `measure` stops, so that this is the status: all files were asked for and accepted, and nothing but the report of the place was begun.
+pub record NoiseStopped (words : List (List ℕ)) (status : ℕ) (shelf shelf_new : Option Shelf) (old new : Option Tray) : Type 0 where
+  pub command : command_of words ≡ Some Measure
+  pub asked : shelf_new ≡ option_map (asks_all (reads_of words)) shelf
+  pub survey : Survey
+  pub accepted : IfSome shelf (λ s. survey_from words (given_by words s.holds) ≡ Ok survey)
+  pub why : MeasureStop
+  pub rest : List ℕ
+  pub stops : NoiseStops (variances_of survey.schema survey.spine) survey.words why rest
+  pub ends : (stop_ending survey.schema survey.spine why).status ≡ status
+  pub written : LeavesReport (stop_ending survey.schema survey.spine why).report old new
+
+-- `measure` wrote the measurements, the totals of the states and the ledger of what the inbox holds, and its report, and nothing else.
+pub record MeasureWrote (words : List (List ℕ)) (holds : List ℕ → Option (List ℕ)) (old new : Option Tray) : Type 0 where
+  pub survey : Survey
+  pub accepted : survey_from words (given_by words holds) ≡ Ok survey
+  pub measurements : List ℤ
+  pub taken : ℕ
+  pub measured : AreMeasurementsOf survey measurements taken
+  pub written : Leaves
+      (whole (slice_index_or (writes_of words) 0 []) (measurements_text survey.schema survey.spine measurements)
+      ∷ whole (slice_index_or (writes_of words) 1 []) (totals_text survey.spine (state_counts survey.spine survey.records))
+      ∷ whole (slice_index_or (writes_of words) 2 []) (ledger_text survey.schema)
+      ∷ whole dash (measured_ending survey.schema survey.spine taken).report ∷ []) old new

@@ -1,7 +1,10 @@
 -- The texts of faults: a name, and what the fault carries.
-use Rattle.std.specs.Prelude.{codes, ℕ, ◌≡◌, ◌+◌, ◌⊎◌, List, [], ◌∷◌, ◌++◌, Some, None}
+use Rattle.std.specs.Prelude.{codes, ℕ, ◌≡◌, ◌+◌, ◌⊎◌, ◌<◌, List, [], ◌∷◌, ◌++◌, slice_index_or, Some, None}
 use Rattle.std.specs.Fmt.{decimal}
+use Rattle.tda_model.specs.Schema.{Schema}
+use Rattle.tda_model.specs.Groups.{kind_count}
 use Rattle.tda_model.specs.Spine.{Spine, IsUnit, code_of}
+use Rattle.tda_schema.specs.Readers.{values_of}
 use Rattle.tda_schema.specs.declared.fault.SchemaFault.{SchemaFault}
 use Rattle.tda_schema.specs.declared.fault.SchemaFault.TheVariants as schema
 use Rattle.tda_spine.specs.declared.fault.SpineFault.{SpineFault}
@@ -12,6 +15,10 @@ use Rattle.tda_invar.specs.declared.tot_fault.TotFault.{TotFault}
 use Rattle.tda_invar.specs.declared.tot_fault.TotFault.TheVariants as totals
 use Rattle.tda_invar.specs.declared.join_fault.JoinFault.{JoinFault}
 use Rattle.tda_invar.specs.declared.join_fault.JoinFault.TheVariants as join
+use Rattle.tda_records.specs.declared.fault.RecFault.{RecFault}
+use Rattle.tda_records.specs.declared.fault.RecFault.TheVariants as records
+use Rattle.tda_hist.specs.declared.fault.HistFault.{HistFault}
+use Rattle.tda_hist.specs.declared.fault.HistFault.TheVariants as hist
 use Rattle.tda_tool.specs.declared.refusal.Plain.{Plain}
 use Rattle.tda_tool.specs.declared.refusal.Plain.TheVariants as plain
 use Rattle.tda_tool.specs.declared.refusal.Named.{Named}
@@ -88,24 +95,54 @@ abbrev pub join_text : Spine → JoinFault → List ℕ
 join_text sp (join.Short state total needed) = short (code_of sp state) total needed
 join_text sp join.NoMemory = []
 
+abbrev pub records_text : RecFault → List ℕ
+records_text (records.BadRow row) = numbered (codes "BadRow") row
+records_text (records.BadHeader row) = numbered (codes "BadHeader") row
+records_text (records.UnknownBlock row) = numbered (codes "UnknownBlock") row
+records_text (records.UnknownValue row) = numbered (codes "UnknownValue") row
+records_text (records.ImpossibleCell row) = numbered (codes "ImpossibleCell") row
+records_text records.NoMemory = []
+
+-- the name of a kind of quarters: a value of the first attribute
+abbrev pub kind_name : Schema → ℕ → List ℕ
+kind_name s kind = slice_index_or (values_of s 0) kind []
+
+-- a name, and then a block's code and the name of a kind
+abbrev pub in_block : Schema → Spine → List ℕ → ℕ → ℕ → List ℕ
+in_block s sp name block kind = coded (coded name (code_of sp block)) (kind_name s kind)
+
+abbrev pub hist_text : Schema → Spine → HistFault → List ℕ
+hist_text s sp (hist.NoFacility block kind) = in_block s sp (codes "NoFacility") block kind
+hist_text s sp (hist.Short block kind found needed) = numbered (numbered (in_block s sp (codes "Short") block kind) found) needed
+
 -- want of memory is no fault of a file, and has no text
 abbrev pub plain_text : Plain → List ℕ
 plain_text plain.TooLong = codes "TooLong"
+plain_text plain.BadLength = codes "BadLength"
 plain_text (plain.Schema fault) = schema_text fault
 plain_text (plain.Spine fault) = spine_text fault
 plain_text (plain.Facilities fault) = facilities_text fault
+plain_text (plain.Records fault) = records_text fault
 
-abbrev pub named_text : Spine → Named → List ℕ
-named_text sp (named.Totals fault) = totals_text sp fault
-named_text sp (named.Join fault) = join_text sp fault
+abbrev pub named_text : Schema → Spine → Named → List ℕ
+named_text s sp (named.Totals fault) = totals_text sp fault
+named_text s sp (named.Join fault) = join_text sp fault
+named_text s sp (named.Hist fault) = hist_text s sp fault
 
--- the units that a fault names are the spine's
-abbrev pub NamesUnits : Spine → Named → Type 0
-NamesUnits sp (named.Totals (totals.Missing state)) = IsUnit sp state
-NamesUnits sp (named.Totals _) = Unit {0}
-NamesUnits sp (named.Join (join.Short state total needed)) = IsUnit sp state
-NamesUnits sp (named.Join join.NoMemory) = Unit {0}
+-- a unit of the spine, and a kind of the schema
+pub record IsPair (s : Schema) (sp : Spine) (u k : ℕ) : Type 0 where
+  pub unit : IsUnit sp u
+  pub kind : k < kind_count s
+
+-- the units that a fault names are the spine's, and the kinds the schema's
+abbrev pub NamesKnown : Schema → Spine → Named → Type 0
+NamesKnown s sp (named.Totals (totals.Missing state)) = IsUnit sp state
+NamesKnown s sp (named.Totals _) = Unit {0}
+NamesKnown s sp (named.Join (join.Short state total needed)) = IsUnit sp state
+NamesKnown s sp (named.Join join.NoMemory) = Unit {0}
+NamesKnown s sp (named.Hist (hist.NoFacility block kind)) = IsPair s sp block kind
+NamesKnown s sp (named.Hist (hist.Short block kind found needed)) = IsPair s sp block kind
 
 -- the text of some fault
 abbrev pub IsFaultText : List ℕ → Type 0
-IsFaultText text = ((fault : Plain) × (text ≡ plain_text fault)) ⊎ ((sp : Spine) × (fault : Named) × (text ≡ named_text sp fault))
+IsFaultText text = ((fault : Plain) × (text ≡ plain_text fault)) ⊎ ((s : Schema) × (sp : Spine) × (fault : Named) × (text ≡ named_text s sp fault))

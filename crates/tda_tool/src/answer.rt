@@ -1,62 +1,104 @@
 // What the program answers.
-ghost use Rattle.std.specs.Prelude.{◌≡◌, IfOk};
-ghost use Rattle.tda_tool.specs.Answer.{ending_of};
-
 use crate::reading::File;
 use crate::refusal::Refusal;
 use std::alloc::Global;
 use tda_io::NoMemory;
 
-/// What `fit` gives: how many fits there are, and the text of the tables.
-#[derive(Debug, Drop)]
-pub(crate) struct Fitted {
-    pub(crate) fits: usize,
-    pub(crate) tables: Vec<u8>,
-}
-
-/// What the program answers, where memory suffices and all can be written.
-#[derive(Debug, Drop)]
-pub(crate) enum Answer {
+/// Why the program ends, where memory suffices and all can be written.
+#[derive(Clone, Copy, Debug, PartialEq, Eq)]
+pub(crate) enum Cause {
+    /// All is done that the words ask for.
+    Done,
     /// The words are no command.
     Words,
     /// A file isn't accepted.
-    Refused(Refusal),
+    Refused(File),
     /// The read of a file failed.
     Read(File),
-    Fit(Fitted),
+    /// The words end before the last draw.
+    OutOfWords,
+    /// A magnitude passes its limit in a draw.
+    TooLarge,
+}
+
+impl Cause {
+    ghost use Rattle.std.specs.Prelude.{◌≡◌};
+    ghost use Rattle.tda_tool.specs.Answer.{status_by};
+
+    /// The status that the program ends with.
+    pub(crate) fn status(self) -> u8
+        ensures { result ≡ status_by self }
+    {
+        match self {
+            Cause::Done => 0,
+            Cause::Words => 2,
+            Cause::Refused(_) => 3,
+            Cause::Read(_) => 4,
+            Cause::OutOfWords => 6,
+            Cause::TooLarge => 7,
+        }
+    }
+}
+
+/// A file that the command writes: its name in the command, and all its bytes.
+#[derive(Debug, Drop)]
+pub(crate) struct Output {
+    pub(crate) name: &'static str,
+    pub(crate) text: Vec<u8>,
+}
+
+/// What the program answers, where memory suffices and all can be written: the outputs in their order, and the report.
+#[derive(Debug, Drop)]
+pub(crate) struct Answer {
+    pub(crate) cause: Cause,
+    pub(crate) outputs: Vec<Output>,
+    pub(crate) report: Vec<u8>,
 }
 
 impl Answer {
-    ghost use Rattle.std.specs.Prelude.{◌≡◌, IfOk};
-    ghost use Rattle.tda_tool.specs.Answer.{ending_of};
+    ghost use Rattle.std.specs.Prelude.{◌≡◌, [], IfOk};
+    ghost use Rattle.tda_tool.specs.Ending.{words_ending, read_ending, refused_ending};
+    ghost use Rattle.tda_tool.specs.Reading.{name_of};
+    ghost use Rattle.tda_tool.specs.Answer.{ReportsAlone};
 
-    /// The status that the program ends with.
-    pub(crate) fn status(&self) -> u8
-        ensures { result ≡ (ending_of self.now).status }
+    /// A report alone.
+    pub(crate) fn alone(alloc: Global, cause: Cause, report: Vec<u8>) -> Answer
+        ensures cause { result.cause ≡ cause }
+        ensures outputs { result.outputs.items ≡ [] }
+        ensures report { result.report ≡ report }
     {
-        match self {
-            Answer::Fit(_) => 0,
-            Answer::Words => 2,
-            Answer::Refused(_) => 3,
-            Answer::Read(_) => 4,
+        Answer {
+            cause,
+            outputs: Vec::new(alloc),
+            report,
         }
     }
 
-    /// The line of the report.
-    pub(crate) fn report(&self, alloc: Global) -> Result<Vec<u8>, NoMemory>
-        ensures { IfOk result (λ v. v.items ≡ (ending_of self.now).report) }
+    /// That the words are no command.
+    pub(crate) fn words(alloc: Global) -> Result<Answer, NoMemory>
+        ensures cause { IfOk result (λ a. a.cause ≡ Cause.Words) }
+        ensures alone { IfOk result (ReportsAlone words_ending) }
     {
-        match self {
-            Answer::Fit(fitted) => {
-                let fits = fitted.fits;
-                Ok(format!(in alloc; "ok fit fits={fits}\n")?.into_bytes())
-            }
-            Answer::Words => Ok(format!(in alloc; "words\n")?.into_bytes()),
-            Answer::Refused(refusal) => refusal.line(alloc),
-            Answer::Read(file) => {
-                let name = file.name();
-                Ok(format!(in alloc; "read {name}\n")?.into_bytes())
-            }
-        }
+        let report = format!(in alloc; "words\n")?.into_bytes();
+        Ok(Answer::alone(alloc, Cause::Words, report))
+    }
+
+    /// That the read of a file failed.
+    pub(crate) fn read(alloc: Global, file: File) -> Result<Answer, NoMemory>
+        ensures cause { IfOk result (λ a. a.cause ≡ Cause.Read file) }
+        ensures alone { IfOk result (ReportsAlone (read_ending (name_of file))) }
+    {
+        let name = file.name();
+        let report = format!(in alloc; "read {name}\n")?.into_bytes();
+        Ok(Answer::alone(alloc, Cause::Read(file), report))
+    }
+
+    /// That a file isn't accepted.
+    pub(crate) fn refused(alloc: Global, refusal: &Refusal) -> Result<Answer, NoMemory>
+        ensures cause { IfOk result (λ a. a.cause ≡ Cause.Refused refusal.now.file) }
+        ensures alone { IfOk result (ReportsAlone (refused_ending (name_of refusal.now.file) refusal.now.fault.items)) }
+    {
+        let report = refusal.line(alloc)?;
+        Ok(Answer::alone(alloc, Cause::Refused(refusal.file), report))
     }
 }

@@ -1,20 +1,25 @@
 // What `fit` makes tables from.
-ghost use Rattle.std.specs.Prelude.{◌≡◌, ◌-◌, ◌^◌, ◌<◌, map, string_bytes, Some};
+ghost use Rattle.std.specs.Prelude.{◌≡◌, ◌-◌, ◌^◌, ◌<◌, IfOk, map, string_bytes, Some};
 ghost use Rattle.tda_model.specs.Bounds.{low};
 ghost use Rattle.tda_model.specs.Groups.{kind_count};
 ghost use Rattle.tda_model.specs.Spine.{IsUnit};
-ghost use Rattle.tda_invar.specs.Known.{unit_total};
-ghost use Rattle.tda_tool.specs.Words.{command_of};
+ghost use Rattle.tda_invar.specs.Facilities.{IsTableOf};
+ghost use Rattle.tda_invar.specs.Totals as totals;
+ghost use Rattle.tda_invar.specs.Totals.{AreTotalsOf};
+ghost use Rattle.tda_invar.specs.Known.{known, join_due, unit_total, IsJoined};
 ghost use Rattle.tda_tool.specs.Attained.{known_of, AreSound};
-ghost use Rattle.tda_tool.specs.Reading.{Gathers, AsksFiles, Counts};
+ghost use Rattle.tda_tool.specs.Due.{inputs_from};
+ghost use Rattle.tda_tool.specs.Words.{command_of};
+ghost use Rattle.tda_tool.specs.Refusal.{totals_text, join_text, NamesKnown};
+ghost use Rattle.tda_tool.specs.Reading.{IsRead, IsStop, GivesFile, GivesJoined, GivesInvariants, AsksFile, CountsRead, Gathers, AsksFiles};
 
-use crate::reading::{
-    Stop, joined, read_facilities_file, read_schema_file, read_spine_file, read_totals_file,
-};
+use crate::base::{Base, read_base};
+use crate::reading::{File, Stop, read_bytes, refused_beside};
+use crate::refusal::Named;
 use crate::words::Command;
 use std::alloc::Global;
 use std::marker::Model;
-use tda_invar::Invariants;
+use tda_invar::{Facilities, Invariants, JoinFault, TotFault, Totals, join, read_totals};
 use tda_io::Inbox;
 use tda_schema::Schema;
 use tda_spine::Spine;
@@ -72,6 +77,90 @@ impl Inputs {
     }
 }
 
+// Why totals that aren't read stop the reading.
+fn totals_stop(alloc: Global, schema: &Schema, spine: &Spine, fault: TotFault) -> Stop
+    requires { NamesKnown schema.now spine.now (Named.Totals fault) }
+    ensures { IsStop TotFault.NoMemory File.Totals (totals_text spine.now) fault result }
+{
+    match fault {
+        TotFault::NoMemory => Stop::NoMemory,
+        fault => refused_beside(alloc, schema, spine, File::Totals, Named::Totals(fault)),
+    }
+}
+
+// The same of totals that don't go with the facilities.
+fn join_stop(alloc: Global, schema: &Schema, spine: &Spine, fault: JoinFault) -> Stop
+    requires { NamesKnown schema.now spine.now (Named.Join fault) }
+    ensures { IsStop JoinFault.NoMemory File.Totals (join_text spine.now) fault result }
+{
+    match fault {
+        JoinFault::NoMemory => Stop::NoMemory,
+        fault => refused_beside(alloc, schema, spine, File::Totals, Named::Join(fault)),
+    }
+}
+
+// Reads and judges the totals, as far as they can be without the facilities.
+fn read_totals_file<I: Inbox>(
+    alloc: Global,
+    words: &[String],
+    schema: &Schema,
+    spine: &Spine,
+    inbox: &mut I,
+) -> Result<Totals, Stop>
+    requires reads { IsRead (map string_bytes words.now) File.Totals }
+    requires room { I.faults inbox.old < 2 ^ 64 - 1 }
+    ensures file { GivesFile (map string_bytes words.now) File.Totals (totals_text spine.now) (totals.read spine.now) (I.told inbox.old) result }
+    ensures totals { IfOk result (AreTotalsOf spine.now) }
+    ensures asked { AsksFile (map string_bytes words.now) File.Totals (I.told inbox.old) (I.told inbox.new) result }
+    ensures cause { CountsRead (I.faults inbox.old) (I.faults inbox.new) result }
+{
+    let bytes = read_bytes(alloc, words, File::Totals, inbox)?;
+    match read_totals(alloc, spine, &bytes) {
+        Ok(totals) => Ok(totals),
+        Err(fault) => Err(totals_stop(alloc, schema, spine, fault)),
+    }
+}
+
+// Judges the totals beside the facilities.
+fn joined(
+    alloc: Global,
+    schema: &Schema,
+    spine: &Spine,
+    facilities: Facilities,
+    totals: Totals,
+) -> Result<Invariants, Stop>
+    requires table { IsTableOf schema.now spine.now facilities }
+    requires totals { AreTotalsOf spine.now totals }
+    ensures given { GivesJoined schema.now spine.now facilities totals result }
+    ensures joined { IfOk result (IsJoined schema.now spine.now) }
+{
+    match join(alloc, schema, spine, facilities, totals) {
+        Ok(invariants) => Ok(invariants),
+        Err(fault) => Err(join_stop(alloc, schema, spine, fault)),
+    }
+}
+
+// Reads and judges the totals, beside the facilities too.
+fn read_invariants<I: Inbox>(
+    alloc: Global,
+    words: &[String],
+    schema: &Schema,
+    spine: &Spine,
+    facilities: Facilities,
+    inbox: &mut I,
+) -> Result<Invariants, Stop>
+    requires reads { IsRead (map string_bytes words.now) File.Totals }
+    requires table { IsTableOf schema.now spine.now facilities }
+    requires room { I.faults inbox.old < 2 ^ 64 - 1 }
+    ensures given { GivesInvariants (map string_bytes words.now) (record { schema = schema.now; spine = spine.now; facilities = facilities }) (I.told inbox.old) result }
+    ensures joined { IfOk result (IsJoined schema.now spine.now) }
+    ensures asked { AsksFile (map string_bytes words.now) File.Totals (I.told inbox.old) (I.told inbox.new) result }
+    ensures cause { CountsRead (I.faults inbox.old) (I.faults inbox.new) result }
+{
+    let totals = read_totals_file(alloc, words, schema, spine, inbox)?;
+    joined(alloc, schema, spine, facilities, totals)
+}
+
 /// Reads and judges the schema, the spine, the facilities and the totals, in this order.
 pub(crate) fn read_inputs<I: Inbox>(
     alloc: Global,
@@ -80,15 +169,16 @@ pub(crate) fn read_inputs<I: Inbox>(
 ) -> Result<Inputs, Stop>
     requires command { command_of (map string_bytes words.now) ≡ Some Command.Fit }
     requires room { I.faults inbox.old < 2 ^ 64 - 1 }
-    ensures inputs { Gathers (map string_bytes words.now) (I.told inbox.old) result }
-    ensures asked { AsksFiles (map string_bytes words.now) (I.told inbox.old) (I.told inbox.new) result }
-    ensures cause { Counts (I.faults inbox.old) (I.faults inbox.new) result }
+    ensures inputs { Gathers (map string_bytes words.now) 4 inputs_from (I.told inbox.old) result }
+    ensures asked { AsksFiles (map string_bytes words.now) 4 (I.told inbox.old) (I.told inbox.new) result }
+    ensures cause { CountsRead (I.faults inbox.old) (I.faults inbox.new) result }
 {
-    let schema = read_schema_file(alloc, words, inbox)?;
-    let spine = read_spine_file(alloc, words, &schema, inbox)?;
-    let facilities = read_facilities_file(alloc, words, &schema, &spine, inbox)?;
-    let totals = read_totals_file(alloc, words, &spine, inbox)?;
-    let invariants = joined(alloc, &schema, &spine, facilities, totals)?;
+    let Base {
+        schema,
+        spine,
+        facilities,
+    } = read_base(alloc, words, inbox)?;
+    let invariants = read_invariants(alloc, words, &schema, &spine, facilities, inbox)?;
     Ok(Inputs {
         schema,
         spine,

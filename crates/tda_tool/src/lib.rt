@@ -2,8 +2,13 @@
 #![tactic(auto)]
 
 mod answer;
+mod base;
+mod counted;
+mod fit;
 mod homes;
 mod inputs;
+mod measured;
+mod noise;
 mod output;
 mod plain;
 mod prepare;
@@ -16,5 +21,7 @@ mod words;
 
 pub use top::tool;
 
+#[cfg(test)]
+mod measure_tests;
 #[cfg(test)]
 mod tests;

@@ -1,13 +1,17 @@
 // Why a file isn't accepted, and how that is printed.
-ghost use Rattle.std.specs.Prelude.{◌≡◌, ◌++◌, OnOk, OnErr};
+ghost use Rattle.std.specs.Prelude.{◌≡◌, ◌<◌, ◌++◌, true, OnOk, OnErr};
+ghost use Rattle.tda_model.specs.Groups.{kind_count};
+ghost use Rattle.tda_io.specs.Texts.{name_test};
 ghost use Rattle.tda_tool.specs.Refusal as spec;
 
 use crate::reading::File;
 use itoa::Buffer;
 use std::alloc::Global;
+use tda_hist::HistFault;
 use tda_invar::{FacFault, JoinFault, TotFault};
 use tda_io::NoMemory;
-use tda_schema::SchemaFault;
+use tda_records::RecFault;
+use tda_schema::{Schema, SchemaFault};
 use tda_spine::{Spine, SpineFault};
 
 /// Why a file isn't accepted, said without the names of other files.
@@ -15,17 +19,22 @@ use tda_spine::{Spine, SpineFault};
 pub(crate) enum Plain {
     /// It has more bytes than are read.
     TooLong,
+    /// It isn't whole words, or no seed.
+    BadLength,
     Schema(SchemaFault),
     Spine(SpineFault),
     Facilities(FacFault),
+    Records(RecFault),
 }
 
-/// Why a file isn't accepted, said with the codes of units.
+/// Why a file isn't accepted, said with the codes of units and the names of kinds.
 #[derive(Clone, Copy, Debug, PartialEq, Eq)]
 pub(crate) enum Named {
     Totals(TotFault),
     /// The totals don't go with the facilities.
     Join(JoinFault),
+    /// The records don't go with the facilities.
+    Hist(HistFault),
 }
 
 /// A file that isn't accepted, and the text of its fault.
@@ -38,7 +47,7 @@ pub(crate) struct Refusal {
 impl Refusal {
     ghost use Rattle.std.specs.Prelude.{◌≡◌, IfOk};
     ghost use Rattle.tda_tool.specs.Reading.{name_of};
-    ghost use Rattle.tda_tool.specs.Due.{refused_ending};
+    ghost use Rattle.tda_tool.specs.Ending.{refused_ending};
 
     /// The line of the report that tells it.
     pub(crate) fn line(&self, alloc: Global) -> Result<Vec<u8>, NoMemory>
@@ -170,11 +179,17 @@ fn push_facilities(fault: FacFault, out: &mut Vec<u8>) -> Result<(), NoMemory>
 }
 
 // Appends the name of a fault of totals, and the row or the state's code that it carries.
-fn push_totals(spine: &Spine, fault: TotFault, out: &mut Vec<u8>) -> Result<(), NoMemory>
-    requires { spec.NamesUnits spine.now (Named.Totals fault) }
+fn push_totals(
+    schema: &Schema,
+    spine: &Spine,
+    fault: TotFault,
+    out: &mut Vec<u8>,
+) -> Result<(), NoMemory>
+    requires { spec.NamesKnown schema.now spine.now (Named.Totals fault) }
     ensures ok { OnOk result (out.new.items ≡ out.old.items ++ spec.totals_text spine.now fault) }
     ensures err { OnErr result (out.new.items ≡ out.old.items) }
 {
+    let _ = schema;
     match fault {
         TotFault::BadRow(row) => push_numbered(out, "BadRow", row),
         TotFault::BadHeader(row) => push_numbered(out, "BadHeader", row),
@@ -187,6 +202,103 @@ fn push_totals(spine: &Spine, fault: TotFault, out: &mut Vec<u8>) -> Result<(), 
     }
 }
 
+// Appends the name of a fault of records, and the row that it carries.
+fn push_records(fault: RecFault, out: &mut Vec<u8>) -> Result<(), NoMemory>
+    ensures ok { OnOk result (out.new.items ≡ out.old.items ++ spec.records_text fault) }
+    ensures err { OnErr result (out.new.items ≡ out.old.items) }
+{
+    match fault {
+        RecFault::BadRow(row) => push_numbered(out, "BadRow", row),
+        RecFault::BadHeader(row) => push_numbered(out, "BadHeader", row),
+        RecFault::UnknownBlock(row) => push_numbered(out, "UnknownBlock", row),
+        RecFault::UnknownValue(row) => push_numbered(out, "UnknownValue", row),
+        RecFault::ImpossibleCell(row) => push_numbered(out, "ImpossibleCell", row),
+        RecFault::NoMemory => Ok(()),
+    }
+}
+
+// The name of a kind of quarters.
+fn kind_name(schema: &Schema, kind: u16) -> &str
+    requires { kind < kind_count schema.now }
+    ensures value { result.now ≡ spec.kind_name schema.now kind }
+    ensures name { name_test 32 result.now ≡ true }
+{
+    schema.value_name(0, kind)
+}
+
+// Appends a name and, each after a space, a block's code and the name of a kind.
+fn push_in_block(
+    schema: &Schema,
+    spine: &Spine,
+    name: &str,
+    block: u32,
+    kind: u16,
+    out: &mut Vec<u8>,
+) -> Result<(), NoMemory>
+    requires { spec.IsPair schema.now spine.now block kind }
+    ensures ok { OnOk result (out.new.items ≡ out.old.items ++ spec.in_block schema.now spine.now name.now block kind) }
+    ensures err { OnErr result (out.new.items ≡ out.old.items) }
+{
+    let code = spine.code(block);
+    let kind = kind_name(schema, kind);
+    out.reserve(name.len() + 2 + code.len() + kind.len())?;
+    out.extend_from_slice(name.as_bytes()).unwrap();
+    out.push(b' ').unwrap();
+    out.extend_from_slice(code.as_bytes()).unwrap();
+    out.push(b' ').unwrap();
+    out.extend_from_slice(kind.as_bytes()).unwrap();
+    Ok(())
+}
+
+// Appends two numbers, each after a space.
+fn push_two(out: &mut Vec<u8>, first: u64, second: u64) -> Result<(), NoMemory>
+    ensures ok { OnOk result (spec.numbered (spec.numbered out.old.items first) second ≡ out.new.items) }
+    ensures err { OnErr result (out.new.items ≡ out.old.items) }
+{
+    let mut first_buffer = Buffer::new();
+    let mut second_buffer = Buffer::new();
+    let first = first_buffer.format(first).as_bytes();
+    let second = second_buffer.format(second).as_bytes();
+    out.reserve(2 + first.len() + second.len())?;
+    out.push(b' ').unwrap();
+    out.extend_from_slice(first).unwrap();
+    out.push(b' ').unwrap();
+    out.extend_from_slice(second).unwrap();
+    Ok(())
+}
+
+// Appends why the persons of a block don't agree with its facilities.
+fn push_hist(
+    schema: &Schema,
+    spine: &Spine,
+    fault: HistFault,
+    out: &mut Vec<u8>,
+) -> Result<(), NoMemory>
+    requires { spec.NamesKnown schema.now spine.now (Named.Hist fault) }
+    ensures ok { OnOk result (out.new.items ≡ out.old.items ++ spec.hist_text schema.now spine.now fault) }
+    ensures err { OnErr result (out.new.items ≡ out.old.items) }
+{
+    match fault {
+        HistFault::NoFacility { block, kind } => {
+            push_in_block(schema, spine, "NoFacility", block, kind, out)
+        }
+        HistFault::Short {
+            block,
+            kind,
+            found,
+            needed,
+        } => {
+            let before = out.len();
+            push_in_block(schema, spine, "Short", block, kind, out)?;
+            let pushed = push_two(out, found, needed);
+            if pushed.is_err() {
+                out.truncate(before);
+            }
+            pushed
+        }
+    }
+}
+
 /// Appends the name of a fault and, after a space, the row that it carries. Want of memory, which is no fault of a file,
 /// has no text. After `NoMemory` the bytes are as they were.
 pub(crate) fn push_plain(fault: &Plain, out: &mut Vec<u8>) -> Result<(), NoMemory>
@@ -195,22 +307,29 @@ pub(crate) fn push_plain(fault: &Plain, out: &mut Vec<u8>) -> Result<(), NoMemor
 {
     match fault {
         Plain::TooLong => push_name(out, "TooLong"),
+        Plain::BadLength => push_name(out, "BadLength"),
         Plain::Schema(fault) => push_name(out, schema_text(*fault)),
         Plain::Spine(fault) => push_spine(*fault, out),
         Plain::Facilities(fault) => push_facilities(*fault, out),
+        Plain::Records(fault) => push_records(*fault, out),
     }
 }
 
-/// Appends the name of a fault and, each after a space, what it carries: a row, or a state's code and the numbers that
-/// belong to it. The units that it names are the spine's. Want of memory has no text. After `NoMemory` the bytes are as
-/// they were.
-pub(crate) fn push_named(spine: &Spine, fault: &Named, out: &mut Vec<u8>) -> Result<(), NoMemory>
-    requires { spec.NamesUnits spine.now fault.now }
-    ensures ok { OnOk result (out.new.items ≡ out.old.items ++ spec.named_text spine.now fault.now) }
+/// Appends the name of a fault and, each after a space, what it carries: a row, or the code of a unit, the name of a kind
+/// and the numbers that belong to it. The units that it names are the spine's, and the kinds the schema's. Want of memory
+/// has no text. After `NoMemory` the bytes are as they were.
+pub(crate) fn push_named(
+    schema: &Schema,
+    spine: &Spine,
+    fault: &Named,
+    out: &mut Vec<u8>,
+) -> Result<(), NoMemory>
+    requires { spec.NamesKnown schema.now spine.now fault.now }
+    ensures ok { OnOk result (out.new.items ≡ out.old.items ++ spec.named_text schema.now spine.now fault.now) }
     ensures err { OnErr result (out.new.items ≡ out.old.items) }
 {
     match fault {
-        Named::Totals(fault) => push_totals(spine, *fault, out),
+        Named::Totals(fault) => push_totals(schema, spine, *fault, out),
         Named::Join(
             JoinFault::Short {
                 state,
@@ -219,5 +338,6 @@ pub(crate) fn push_named(spine: &Spine, fault: &Named, out: &mut Vec<u8>) -> Res
             },
         ) => push_short(out, spine.code(*state), *total, *needed),
         Named::Join(JoinFault::NoMemory) => Ok(()),
+        Named::Hist(fault) => push_hist(schema, spine, *fault, out),
     }
 }

@@ -2,33 +2,37 @@ ghost use Rattle.std.specs.Prelude.{◌≡◌, ◌-◌, ◌^◌, ◌<◌, IfOk};
 ghost use Rattle.tda_io.specs.Outside.{CountsOut};
 
 use super::*;
+use crate::measure_tests::{HOUSES, ONES, RECORDS};
 use crate::refusal::{Named, Plain, push_named, push_plain};
 use crate::words::judge;
 use std::alloc::Global;
 use std::test::Fail;
+use tda_hist::HistFault;
 use tda_invar::{FacFault, JoinFault, TotFault};
 use tda_io::{MemFile, MemInbox, MemOutbox, OutFault, Outbox};
+use tda_records::RecFault;
 use tda_schema::{SchemaFault, read_schema};
 use tda_spine::{SpineFault, read_spine};
 
-const SCHEMA: &str =
+pub(crate) const SCHEMA: &str =
     "version = 1\ntotal = \"1\"\n\n[[attribute]]\nname = \"kind\"\nvalues = [\"house\"]\n\n[[level]]\nname = \"nation\"\n\n[[level]]\nname = \"state\"\n\n[[level]]\nname = \"block\"\n";
 
 const OVER_TOTAL: &str =
     "version = 1\ntotal = \"499/1000\"\n\n[[attribute]]\nname = \"kind\"\nvalues = [\"house\"]\n\n[[level]]\nname = \"nation\"\n\n[[level]]\nname = \"state\"\n\n[[level]]\nname = \"block\"\nquery = [{ name = \"total\", by = [], share = \"1/2\" }]\n";
 
-const SPINE: &str = "unit,level,parent\nUS,nation,\nS1,state,US\nB1,block,S1\nB2,block,S1\n";
+pub(crate) const SPINE: &str =
+    "unit,level,parent\nUS,nation,\nS1,state,US\nB1,block,S1\nB2,block,S1\n";
 
-const CHILDLESS: &str = "unit,level,parent\nUS,nation,\nS1,state,US\n";
+pub(crate) const CHILDLESS: &str = "unit,level,parent\nUS,nation,\nS1,state,US\n";
 
-const FACILITIES: &str = "block,kind,count\n";
+pub(crate) const FACILITIES: &str = "block,kind,count\n";
 
 const TOTALS: &str = "state,total\nS1,5\n";
 
 const WORDS: &str = "fit --schema a --spine b --facilities c --totals d --tables e";
 
 // The words between spaces.
-fn words_of(alloc: Global, line: &str) -> Result<Vec<String>, Fail> {
+pub(crate) fn words_of(alloc: Global, line: &str) -> Result<Vec<String>, Fail> {
     if line.is_empty() {
         return Ok(Vec::new(alloc));
     }
@@ -39,30 +43,30 @@ fn words_of(alloc: Global, line: &str) -> Result<Vec<String>, Fail> {
     Ok(words)
 }
 
-// An inbox with a schema `a`, a spine `b`, facilities `c` and totals `d`, whose read of this number fails.
-fn inbox_of(alloc: Global, texts: [&str; 4], fail: u64) -> Result<MemInbox, Fail>
+// An inbox with these files under the names `a`, `b`, `c` and so on, whose read of this number fails.
+fn inbox_of(alloc: Global, files: &[&[u8]], fail: u64) -> Result<MemInbox, Fail>
     ensures { IfOk result (λ inbox. inbox.faults ≡ 0) }
 {
-    let mut files = Vec::new(alloc);
-    for (name, text) in ["a", "b", "c", "d"].into_iter().zip(texts) {
-        files.push(MemFile {
+    let mut held = Vec::new(alloc);
+    for (name, bytes) in ["a", "b", "c", "d", "e"].into_iter().zip(files) {
+        held.push(MemFile {
             name: String::from_str(alloc, name)?,
-            bytes: text.as_bytes().to_vec(alloc)?,
+            bytes: bytes.to_vec(alloc)?,
         })?;
     }
-    Ok(MemInbox::new(alloc, files, vec![in alloc; fail]?))
+    Ok(MemInbox::new(alloc, held, vec![in alloc; fail]?))
 }
 
 // The status, and each name that was begun with its text.
-fn ran(
+pub(crate) fn shown(
     alloc: Global,
     line: &str,
-    texts: [&str; 4],
+    files: &[&[u8]],
     fail_read: u64,
     fail_write: u64,
 ) -> Result<String, Fail> {
     let words = words_of(alloc, line)?;
-    let mut inbox = inbox_of(alloc, texts, fail_read)?;
+    let mut inbox = inbox_of(alloc, files, fail_read)?;
     let mut outbox = MemOutbox::new(alloc, vec![in alloc; fail_write]?);
     let status = tool(alloc, &words, &mut inbox, &mut outbox);
     let mut shown = format!(in alloc; "{status}")?;
@@ -73,6 +77,24 @@ fn ran(
         shown.push_str(std::str::from_utf8(file.bytes.as_slice()).unwrap_or("no text"))?;
     }
     Ok(shown)
+}
+
+// The same of a schema, a spine, facilities and totals.
+fn ran(
+    alloc: Global,
+    line: &str,
+    texts: [&str; 4],
+    fail_read: u64,
+    fail_write: u64,
+) -> Result<String, Fail> {
+    let [schema, spine, facilities, totals] = texts;
+    let files = [
+        schema.as_bytes(),
+        spine.as_bytes(),
+        facilities.as_bytes(),
+        totals.as_bytes(),
+    ];
+    shown(alloc, line, &files, fail_read, fail_write)
 }
 
 #[test]
@@ -204,7 +226,7 @@ fn states_have_their_totals(rt: HostRuntime) -> Result<(), Fail> {
 }
 
 // Two kinds of quarters, and a state whose first block has a dormitory.
-const DORMITORY: &str =
+pub(crate) const DORMITORY: &str =
     "version = 1\ntotal = \"1\"\n\n[[attribute]]\nname = \"kind\"\nvalues = [\"house\", \"dorm\"]\n\n[[level]]\nname = \"nation\"\nquery = [{ name = \"kind\", by = [\"kind\"], share = \"1/2\" }]\n\n[[level]]\nname = \"state\"\n\n[[level]]\nname = \"block\"\nquery = [{ name = \"kind\", by = [\"kind\"], share = \"1/2\" }]\n";
 
 // Two levels: the states are the blocks, and the first has a prison.
@@ -214,7 +236,7 @@ const PRISON: &str =
 const TWO_BLOCKS: &str = "unit,level,parent\nUS,nation,\nS1,state,US\nS2,state,US\n";
 
 // With two sexes, of whom one has no dormitory: each kind's persons are in its first possible cell.
-const WOMEN: &str =
+pub(crate) const WOMEN: &str =
     "version = 1\ntotal = \"1\"\nattribute = [{ name = \"kind\", values = [\"house\", \"dorm\"] }, { name = \"sex\", values = [\"f\", \"m\"] }]\nzero = [{ kind = [\"dorm\"], sex = [\"f\"] }]\nlevel = [{ name = \"nation\" }, { name = \"state\" }, { name = \"block\" }]\n";
 
 #[test]
@@ -290,8 +312,17 @@ fn facilities_have_their_persons(rt: HostRuntime) -> Result<(), Fail> {
     Ok(())
 }
 
-const FAULTS: [(Plain, &str); 36] = [
+const FAULTS: [(Plain, &str); 42] = [
     (Plain::TooLong, "TooLong"),
+    (Plain::BadLength, "BadLength"),
+    (Plain::Records(RecFault::BadRow(2)), "BadRow 2"),
+    (Plain::Records(RecFault::UnknownBlock(3)), "UnknownBlock 3"),
+    (Plain::Records(RecFault::UnknownValue(4)), "UnknownValue 4"),
+    (
+        Plain::Records(RecFault::ImpossibleCell(5)),
+        "ImpossibleCell 5",
+    ),
+    (Plain::Records(RecFault::NoMemory), ""),
     (Plain::Schema(SchemaFault::BadToml), "BadToml"),
     (Plain::Schema(SchemaFault::UnknownKey), "UnknownKey"),
     (Plain::Schema(SchemaFault::MissingKey), "MissingKey"),
@@ -360,15 +391,20 @@ fn a_fault_is_printed_with_its_state(rt: HostRuntime) -> Result<(), Fail> {
     let spine = read_spine(rt.alloc(), &schema, TWO_STATES.as_bytes())?;
     assert_eq!(rt; spine.units(), 5);
     let mut out = Vec::from_slice(rt.alloc(), b"refused ")?;
-    push_named(&spine, &Named::Totals(TotFault::Missing(2)), &mut out)?;
+    push_named(
+        &schema,
+        &spine,
+        &Named::Totals(TotFault::Missing(2)),
+        &mut out,
+    )?;
     out.push(b'|')?;
     let short = JoinFault::Short {
         state: 1,
         total: 1,
         needed: 1048576,
     };
-    push_named(&spine, &Named::Join(short), &mut out)?;
-    push_named(&spine, &Named::Join(JoinFault::NoMemory), &mut out)?;
+    push_named(&schema, &spine, &Named::Join(short), &mut out)?;
+    push_named(&schema, &spine, &Named::Join(JoinFault::NoMemory), &mut out)?;
     assert_eq!(rt;
         out.as_slice(),
         b"refused Missing S2|Short S1 1 1048576".as_slice()
@@ -391,6 +427,18 @@ fn words_are_a_command_and_its_pairs(rt: HostRuntime) -> Result<(), Fail> {
         (
             "fit --schema --spine --spine b --facilities c --totals d --tables --schema",
             true,
+        ),
+        (
+            "measure --schema a --spine b --facilities c --records d --words w --measurements m --totals t --ledger l",
+            true,
+        ),
+        (
+            "measure --schema a --spine b --facilities c --records d --words w --measurements m --totals m --ledger l",
+            false,
+        ),
+        (
+            "measure --schema a --spine b --facilities c --records d --measurements m --totals t --ledger l",
+            false,
         ),
         ("", false),
         ("fit", false),
@@ -545,7 +593,10 @@ impl Outbox for Counter {
 #[test]
 fn no_call_follows_one_that_failed(rt: HostRuntime) -> Result<(), Fail> {
     let alloc = rt.alloc();
-    let words = words_of(alloc, WORDS)?;
+    let words = words_of(
+        alloc,
+        "measure --schema a --spine b --facilities c --records d --words e --measurements m --totals t --ledger l",
+    )?;
     let table = [
         (0, 1),
         (0, 2),
@@ -553,12 +604,25 @@ fn no_call_follows_one_that_failed(rt: HostRuntime) -> Result<(), Fail> {
         (0, 4),
         (0, 5),
         (0, 6),
+        (0, 7),
+        (0, 8),
+        (0, 9),
+        (0, 10),
+        (0, 11),
+        (0, 12),
         (2, 1),
         (2, 2),
         (2, 3),
     ];
     for (read, fail) in table {
-        let mut inbox = inbox_of(alloc, [SCHEMA, SPINE, FACILITIES, TOTALS], read)?;
+        let files = [
+            HOUSES.as_bytes(),
+            SPINE.as_bytes(),
+            FACILITIES.as_bytes(),
+            RECORDS.as_bytes(),
+            ONES.as_slice(),
+        ];
+        let mut inbox = inbox_of(alloc, &files, read)?;
         let mut outbox = Counter {
             calls: 0,
             fail,

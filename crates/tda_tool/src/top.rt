@@ -2,9 +2,10 @@
 ghost use Rattle.std.specs.Prelude.{◌≡◌, ◌≢◌, ◌⊎◌, ◌↔◌, ◌-◌, ◌^◌, ◌<◌, ◌≤◌, map, string_bytes, option_map, IfOk, IfSome, IsTrue, Some, None};
 ghost use Rattle.tda_io.specs.Outside.{CountsOut};
 ghost use Rattle.tda_tool.specs.Words.{command_of, reads_of, writes_of};
-ghost use Rattle.tda_tool.specs.Due.{due, words_ending};
-ghost use Rattle.tda_tool.specs.Outcome.{is_status, IsSettled, IsEmpty, Leaves, LeavesReport, LeavesAll, FitWrote, FileRefused, ReadFailed, AsksPrefix, asks_all, BeginsPrefix, BeginsWhenDue};
-ghost use Rattle.tda_tool.specs.Answer.{SuitsWords, IsDue, Asks, files_of, CountsRun, status_of};
+ghost use Rattle.tda_tool.specs.Ending.{words_ending};
+ghost use Rattle.tda_tool.specs.Due.{IsDueStatus};
+ghost use Rattle.tda_tool.specs.Outcome.{is_status, IsSettled, IsEmpty, Leaves, LeavesReport, LeavesAll, ReportsDue, FitWrote, MeasureWrote, NoiseStopped, FileRefused, ReadFailed, AsksPrefix, asks_all, BeginsPrefix, BeginsWhenDue};
+ghost use Rattle.tda_tool.specs.Answer.{Suits, Asks, files_of, CountsRun, status_of};
 
 use crate::answer::Answer;
 use crate::prepare::prepare;
@@ -23,9 +24,7 @@ fn run<I: Inbox, O: Outbox>(
     requires empty { IfSome (O.told outbox.old) IsEmpty }
     requires room_in { I.faults inbox.old < 2 ^ 64 - 1 }
     requires room_out { O.faults outbox.old < 2 ^ 64 - 1 }
-    ensures suits { IfOk result (SuitsWords (map string_bytes words.now)) }
-    ensures due { IfOk result (λ a.
-        IfSome (I.told inbox.old) (λ s. IsDue (map string_bytes words.now) s.holds a)) }
+    ensures suits { IfOk result (Suits (map string_bytes words.now) (I.told inbox.old)) }
     ensures told { IfOk result (Asks (map string_bytes words.now) (I.told inbox.old) (I.told inbox.new)) }
     ensures asked { AsksPrefix (reads_of (map string_bytes words.now)) (I.told inbox.old) (I.told inbox.new) }
     ensures written { IfOk result (λ a.
@@ -38,7 +37,7 @@ fn run<I: Inbox, O: Outbox>(
 {
     match prepare(alloc, words, inbox) {
         Ok(answer) => {
-            publish(alloc, words, &answer, outbox)?;
+            publish(words, &answer, outbox)?;
             Ok(answer)
         }
         Err(NoMemory) => Err(tell_memory(outbox)),
@@ -50,15 +49,16 @@ fn status(run: &Result<Answer, OutFault>) -> u8
     ensures { result ≡ status_of run.now }
 {
     match run {
-        Ok(answer) => answer.status(),
+        Ok(answer) => answer.cause.status(),
         Err(OutFault::Failed) => 5,
         Err(OutFault::NoMemory) => 8,
     }
 }
 
 /// Does all that the program does, and answers its status: 0 where all outputs and the report are written, 2 where the
-/// words are no command, 3 where a file isn't accepted, 4 where a read failed, 5 where a write failed, 8 for want of
-/// memory. No name is begun in the outbox. Both counts of faults are below 2^64 - 1.
+/// words are no command, 3 where a file isn't accepted, 4 where a read failed, 5 where a write failed, 6 where the words
+/// of the noise end before the last draw, 7 where a magnitude passes 2^30 in a draw, 8 for want of memory. No name is begun
+/// in the outbox. Both counts of faults are below 2^64 - 1.
 pub fn tool<I: Inbox, O: Outbox>(
     alloc: Global,
     words: &[String],
@@ -71,15 +71,20 @@ pub fn tool<I: Inbox, O: Outbox>(
 
     ensures statuses { IsTrue (is_status result) }
 
-    // Where no object failed and memory sufficed, the status is the one that is due. A refusal has its report alone.
+    // Where no object failed and memory sufficed, the status is the one that is due. But for status 0 its report stands alone.
     ensures settled { IsSettled result → IfSome (I.told inbox.old) (λ s.
-        (due (map string_bytes words.now) s.holds).status ≡ result) }
+        IsDueStatus (map string_bytes words.now) s.holds result) }
     ensures settled_report { IsSettled result → result ≢ 0 → IfSome (I.told inbox.old) (λ s.
-        LeavesReport (due (map string_bytes words.now) s.holds).report (O.told outbox.old) (O.told outbox.new)) }
+        ReportsDue (map string_bytes words.now) s.holds (O.told outbox.old) (O.told outbox.new)) }
 
     // The tables that `fit` writes are attained over what the inbox holds, and nothing else is written but the report.
     ensures fit_wrote { result ≡ 0 → command_of (map string_bytes words.now) ≡ Some Command.Fit → IfSome (I.told inbox.old) (λ s.
         FitWrote (map string_bytes words.now) s.holds (O.told outbox.old) (O.told outbox.new)) }
+
+    // The measurements, totals and ledger that `measure` writes are those of what the inbox holds, with the noise on its
+    // words, and nothing else is written but the report.
+    ensures measure_wrote { result ≡ 0 → command_of (map string_bytes words.now) ≡ Some Command.Measure → IfSome (I.told inbox.old) (λ s.
+        MeasureWrote (map string_bytes words.now) s.holds (O.told outbox.old) (O.told outbox.new)) }
     ensures all_written { result ≡ 0 →
         LeavesAll (writes_of (map string_bytes words.now)) (O.told outbox.old) (O.told outbox.new) }
 
@@ -91,6 +96,10 @@ pub fn tool<I: Inbox, O: Outbox>(
 
     // Which file is refused.
     ensures refused { result ≡ 3 → FileRefused (map string_bytes words.now)
+        (I.told inbox.old) (I.told inbox.new) (O.told outbox.old) (O.told outbox.new) }
+
+    // At which place the noise stops: the words end, or a magnitude passes its limit.
+    ensures stopped { (result ≡ 6) ⊎ (result ≡ 7) → NoiseStopped (map string_bytes words.now) result
         (I.told inbox.old) (I.told inbox.new) (O.told outbox.old) (O.told outbox.new) }
 
     // Which object failed.

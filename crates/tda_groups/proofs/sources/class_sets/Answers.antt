@@ -1,9 +1,9 @@
-use Rattle.std.proofs.Common.{◌≡◌, ◌∙◌, ◌<◌, ◌+◌, ap, sym, arith, length}
+use Rattle.std.proofs.Common.{◌≡◌, ◌==◌, ◌∙◌, ◌<◌, ◌+◌, ap, sym, arith, length, map, filter}
 use Rattle.std.proofs.lemmas.List.FromFn.{length-map-range_with_len}
-use Rattle.tda_model.specs.Cells.{cell_count, is_possible}
+use Rattle.tda_model.specs.Cells.{cell_count, is_possible, all_cells}
 use Rattle.tda_schema.specs.Stated.{query_at, class_of}
 use Rattle.tda_groups.proofs.Buckets.{bucket, buckets, buckets_skip, buckets_put, buckets_all}
-use Rattle.tda_groups.proofs.Classes.{class_below}
+use Rattle.tda_groups.proofs.Classes.{class_below, scope_is}
 use Rattle.tda_groups.proofs.sources.class_sets.Goals as goal
 use Rattle.tda_groups.proofs.sources.class_sets.Goals.{then-possible+in_ok-push, else-possible}
 
@@ -36,3 +36,4 @@ returns c =
     let q = query_at s c.args.level c.args.query in
     let all : c.loop-cell.cell ≡ cell_count s = omega (arith, c.cells-cell-end.ensures.count) in
     c.loop-cell.invariant ∙ ap (buckets (is_possible s) (class_of s q) (cell_count s)) all ∙ buckets_all (is_possible s) (class_of s q) (cell_count s) (cell_count s)
+    ∙ ap (λ cells. map (λ k. filter (λ j. class_of s q j == k) cells) (all_cells s)) (sym (scope_is s q c.requires.over_all))

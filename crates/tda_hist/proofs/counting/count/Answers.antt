@@ -1,8 +1,9 @@
 use Rattle.std.proofs.Common.{◌≡◌, subst, arith}
+use Rattle.tda_out.proofs.RowLemmas.{counts_are}
 use Rattle.tda_hist.specs.TrueTable.{true_count}
 use Rattle.tda_hist.proofs.Adding.{AreAdded, parent_here, children_sum, added_more, added_all}
 use Rattle.tda_hist.proofs.TrueCounts.{true_split}
-use Rattle.tda_hist.proofs.Counted.{counted_start, counted_limit, counted_blocks, counted_few, counted_few_in_states}
+use Rattle.tda_hist.proofs.Counted.{counted_start, counted_limit, counted_blocks, counted_persons, counted_in_nation, counted_at_level, counted_in_states}
 use Rattle.tda_hist.proofs.counting.count.Goals as goal
 
 pub loop-place-init : goal.loop-place-init
@@ -50,8 +51,17 @@ returns-clause-counts c = all_counted c
 pub returns-clause-blocks : goal.returns-clause-blocks
 returns-clause-blocks c = counted_blocks c.args.schema.now c.args.spine.now c.units.ensures.sound.tree c.args.records.now c.requires c.loop-place.tables (all_counted c)
 
-pub returns-clause-few : goal.returns-clause-few
-returns-clause-few c = counted_few c.args.schema.now c.args.spine.now c.units.ensures.sound.tree c.args.records.now c.requires c.loop-place.tables (all_counted c)
+pub returns-clause-tables : goal.returns-clause-tables
+returns-clause-tables c = rw (all_counted c) (counts_are c.args.schema.now c.args.spine.now (true_count c.args.spine.now c.args.records.now))
 
-pub returns-clause-few_in_states : goal.returns-clause-few_in_states
-returns-clause-few_in_states c = counted_few_in_states c.args.schema.now c.args.spine.now c.units.ensures.sound.tree c.args.records.now c.requires c.loop-place.tables (all_counted c)
+pub returns-clause-persons : goal.returns-clause-persons
+returns-clause-persons c = counted_persons c.args.schema.now c.args.spine.now c.units.ensures.sound.tree c.args.records.now c.requires c.loop-place.tables (all_counted c)
+
+pub returns-clause-nation : goal.returns-clause-nation
+returns-clause-nation c = counted_in_nation c.args.schema.now c.args.spine.now c.units.ensures.sound.tree c.args.records.now c.requires c.loop-place.tables (all_counted c)
+
+pub returns-clause-levels : goal.returns-clause-levels
+returns-clause-levels c = counted_at_level c.args.schema.now c.args.spine.now c.units.ensures.sound.tree c.args.records.now c.requires c.loop-place.tables (all_counted c)
+
+pub returns-clause-states : goal.returns-clause-states
+returns-clause-states c = counted_in_states c.args.schema.now c.args.spine.now c.units.ensures.sound.tree c.args.records.now c.requires c.loop-place.tables (all_counted c)

@@ -4,8 +4,9 @@ use Rattle.tda_model.specs.Groups.{class_cells}
 use Rattle.tda_out.specs.Counts.{count_at}
 use Rattle.tda_schema.specs.Parts.{holds}
 use Rattle.tda_schema.specs.Stated.{query_at}
-use Rattle.tda_hist.specs.TrueTable.{class_sum}
+use Rattle.tda_hist.specs.TrueTable.{class_count, class_sum}
 use Rattle.tda_hist.proofs.ClassCells.{over_whole, class_at, class_sum_by}
+use Rattle.tda_hist.proofs.Counted.{counted_class}
 use Rattle.tda_hist.proofs.KindCells.{more_from}
 use Rattle.tda_hist.proofs.sums.class_sum.Goals as goal
 use Rattle.tda_hist.proofs.sums.class_sum.Goals.{then-is_in_class, else-is_in_class}
@@ -46,5 +47,11 @@ returns c =
     let class = class_at s q whole first there in
     let low : first ≤ c.loop-cell.cell = c.loop-cell.auto.cell in
     let all : first + (c.loop-cell.cell - first) ≡ cell_count s = omega (arith, c.loop-cell-test.false, c.loop-cell.auto.cell-end, c.cells-cell-end.ensures.count, class.below) in
-    class_sum_by s q whole x first class (c.loop-cell.cell - first) c.loop-cell.sum all c.loop-cell.invariant.sum
-    ∙ ap (λ l. class_sum s (query_at s l c.args.place.query) x first) level
+    let sum_is = class_sum_by s q whole x first class (c.loop-cell.cell - first) c.loop-cell.sum all c.loop-cell.invariant.sum in
+    record {
+      value = sum_is ∙ ap (λ l. class_sum s (query_at s l c.args.place.query) x first) level;
+      persons = λ records is.
+          sum_is ∙ counted_class s c.args.spine.now q whole records c.args.tables.now is c.args.place.unit first c.requires.place.unit
+          ∙ ap (λ l. class_count s c.args.spine.now (query_at s l c.args.place.query) records c.args.place.unit first) level;
+      limit = omega (arith, c.loop-cell.invariant.limit, all, c.cells-cell-end.ensures.limits.cells);
+    }

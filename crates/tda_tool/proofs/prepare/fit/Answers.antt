@@ -1,11 +1,19 @@
 use Rattle.std.proofs.Common.{map, string_bytes}
-use Rattle.tda_tool.proofs.Asked.{asks_whole, prepared_none}
+use Rattle.tda_tool.proofs.Prepared.{fit_done, fit_stopped}
 use Rattle.tda_tool.proofs.prepare.fit.Goals as goal
 
-pub returns-in_err-fitted-in-Ok-clause-asked : goal.returns-in_err-fitted-in-Ok-clause-asked
-returns-in_err-fitted-in-Ok-clause-asked g c =
-    prepared_none (map string_bytes c.args.words.now) _ _ _ c.from_residual.ensures.0 (asks_whole _ _ _ c.in-Ok.ensures.asked)
+pub returns-in-Ok-clause-suits : goal.returns-in-Ok-clause-suits
+returns-in-Ok-clause-suits g c =
+    (fit_done (map string_bytes c.args.words.now) c.requires.command _ _ _ _ c.in-Ok.inputs c.fitted.result c.in-Ok.ensures.inputs c.in-Ok.ensures.asked c.in-Ok.ensures.cause c.fitted.ensures.cause c.fitted.ensures.made).suits
 
-pub returns-in-Err-Refused-clause-suits : goal.returns-in-Err-Refused-clause-suits
-returns-in-Err-Refused-clause-suits g c =
-    rw c.in-Err-Refused.field-0-is (c.requires.command, (rw c.in-Err-Refused.field-0-is at c.in-Err-Refused.ensures.inputs).0)
+pub returns-in-Ok-clause-asked : goal.returns-in-Ok-clause-asked
+returns-in-Ok-clause-asked g c =
+    (fit_done (map string_bytes c.args.words.now) c.requires.command _ _ _ _ c.in-Ok.inputs c.fitted.result c.in-Ok.ensures.inputs c.in-Ok.ensures.asked c.in-Ok.ensures.cause c.fitted.ensures.cause c.fitted.ensures.made).asked
+
+pub returns-in-Err-clause-suits : goal.returns-in-Err-clause-suits
+returns-in-Err-clause-suits g c =
+    (fit_stopped (map string_bytes c.args.words.now) c.requires.command _ _ _ _ c.in-Err.stop c.stopped.result c.in-Err.ensures.inputs c.in-Err.ensures.asked c.in-Err.ensures.cause c.stopped.ensures).suits
+
+pub returns-in-Err-clause-asked : goal.returns-in-Err-clause-asked
+returns-in-Err-clause-asked g c =
+    (fit_stopped (map string_bytes c.args.words.now) c.requires.command _ _ _ _ c.in-Err.stop c.stopped.result c.in-Err.ensures.inputs c.in-Err.ensures.asked c.in-Err.ensures.cause c.stopped.ensures).asked

@@ -1,0 +1,196 @@
+-- What was gathered, or what stopped the gathering, tells what is to be answered.
+use Rattle.std.proofs.Common.{◌≡◌, ◌∙◌, List, ℕ, take, refl, sym, ap, subst, arith, Option, Some, None, IfSome, option_map, Result, Ok, Err}
+use Rattle.std.specs.Result.{IfOk}
+use Rattle.tda_io.specs.Outside.{Shelf}
+use Rattle.tda_io.specs.declared.outside.NoMemory.{NoMemory}
+use Rattle.tda_measure.specs.Noise.{variances_of, IsNoise, IsDetermined}
+use Rattle.tda_tool.specs.Attained.{Inputs}
+use Rattle.tda_tool.specs.Measuring.{Survey}
+use Rattle.tda_tool.specs.Words.{command_of, form_in, reads_of, pairs_after, values_in}
+use Rattle.tda_tool.specs.Ending.{Ending}
+use Rattle.tda_tool.specs.Due.{Given, given_by, failing_at, inputs_from, survey_from, task_by, due_task}
+use Rattle.tda_tool.specs.Outcome.{AsksPrefix, asks_all}
+use Rattle.tda_tool.specs.Reading.{number_of, Gathers, AsksFiles, CountsRead, Surveys, IsCounted, noise_words}
+use Rattle.tda_tool.specs.Answer.{Suits, SuitsBy, AnswersStop, AnswersBy, AnswersNoise, AsksBy, AsksPrepared, CountsBy, CountsPrepared, IsFitted, HasSurvey, StopsWith}
+use Rattle.tda_tool.specs.declared.words.Command.{Command}
+use Rattle.tda_tool.specs.declared.words.Command.TheVariants as command
+use Rattle.tda_tool.specs.declared.reading.Stop.{Stop}
+use Rattle.tda_tool.specs.declared.reading.Stop.TheVariants as stop
+use Rattle.tda_tool.specs.declared.counted.Counted.{Counted}
+use Rattle.tda_tool.specs.declared.answer.Answer.{Answer}
+use Rattle.tda_tool.specs.declared.answer.Cause.{Cause}
+use Rattle.tda_tool.specs.declared.answer.Cause.TheVariants as cause
+use Rattle.tda_tool.proofs.Asked.{asks_whole}
+use Rattle.tda_tool.proofs.Ran.{fit_task, measure_task, asks_up_to}
+use Rattle.tda_tool.proofs.Surveyed.{measures}
+
+-- what was gathered is what the shelf's files come to
+gathered : {X : Type 0} (words : List (List ℕ)) (n : ℕ) (from : Given → Result X Ending) (shelf : Option Shelf) (x : X) → Gathers words n from shelf (Ok x) → IfSome shelf (λ s. from (given_by words s.holds) ≡ Ok x)
+gathered words n from None x gives = tt
+gathered words n from (Some s) x gives = gives (given_by words s.holds) (λ m l. refl)
+
+-- ---- a stop
+
+module _ {X : Type 0} (words : List (List ℕ)) (n : ℕ) (from : Given → Result X Ending) (tasks : (given : Given) (e : Ending) → from given ≡ Err e → task_by words given ≡ Err e) where
+  refuses : (shelf : Option Shelf) (e : Ending) → IfSome shelf (λ s. from (given_by words s.holds) ≡ Err e) → IfSome shelf (λ s. due_task words s.holds ≡ Err e)
+  refuses None e is = tt
+  refuses (Some s) e is = tasks (given_by words s.holds) e is
+
+  fails : (k : ℕ) (shelf : Option Shelf) (e : Ending) → IfSome shelf (λ s. from (failing_at k (given_by words s.holds)) ≡ Err e)
+      → IfSome shelf (λ s. task_by words (failing_at k (given_by words s.holds)) ≡ Err e)
+  fails k None e is = tt
+  fails k (Some s) e is = tasks (failing_at k (given_by words s.holds)) e is
+
+  stop_suits : (shelf : Option Shelf) (e : Stop) (a : Answer) → Gathers words n from shelf (Err e) → AnswersStop e a → Suits words shelf a
+  stop_suits shelf (stop.Refused r) a gives answers = subst (λ k. SuitsBy k words shelf a) (sym answers.0) (record {
+    reads = gives.0;
+    fault = r.fault.items;
+    of_fault = gives.1;
+    due = refuses shelf _ gives.2;
+    alone = answers.1;
+  })
+  stop_suits shelf (stop.Read f) a gives answers = subst (λ k. SuitsBy k words shelf a) (sym answers.0) (record {
+    reads = gives.0;
+    due = fails (number_of f) shelf _ gives.1;
+    alone = answers.1;
+  })
+  stop_suits shelf stop.NoMemory a gives answers = absurd answers
+
+  stop_asks : (shelf old new : Option Shelf) (e : Stop) (r : Result Answer NoMemory) → Gathers words n from shelf (Err e) → AsksFiles {X = X} words n old new (Err e) → IfOk r (AnswersStop e)
+      → AsksPrepared words old new r
+  stop_asks shelf old new (stop.Refused f) (Ok a) gives asked answers = subst (λ k. AsksBy k words old new) (sym answers.0) asked
+  stop_asks shelf old new (stop.Refused f) (Err e) gives asked answers = asks_up_to words f.file old new gives.0 asked
+  stop_asks shelf old new (stop.Read f) (Ok a) gives asked answers = subst (λ k. AsksBy k words old new) (sym answers.0) asked
+  stop_asks shelf old new (stop.Read f) (Err e) gives asked answers = asks_up_to words f old new gives.0 asked
+  stop_asks shelf old new stop.NoMemory (Ok a) gives asked answers = absurd answers
+  stop_asks shelf old new stop.NoMemory (Err e) gives asked answers = asked
+
+stop_counts : (X : Type 0) (before now : ℕ) (e : Stop) (r : Result Answer NoMemory) → CountsRead {T = X} before now (Err e) → IfOk r (AnswersStop e) → CountsPrepared before now r
+stop_counts X before now (stop.Refused f) (Ok a) count answers = subst (λ k. CountsBy k before now) (sym answers.0) count
+stop_counts X before now (stop.Refused f) (Err e) count answers = omega arith
+stop_counts X before now (stop.Read f) (Ok a) count answers = subst (λ k. CountsBy k before now) (sym answers.0) count
+stop_counts X before now (stop.Read f) (Err e) count answers = omega arith
+stop_counts X before now stop.NoMemory (Ok a) count answers = absurd answers
+stop_counts X before now stop.NoMemory (Err e) count answers = omega arith
+
+-- a preparation that is as it should be
+pub record IsPrepared (words : List (List ℕ)) (old new : Option Shelf) (before now : ℕ) (r : Result Answer NoMemory) : Type 0 where
+  pub suits : IfOk r (Suits words old)
+  pub asked : AsksPrepared words old new r
+  pub cause : CountsPrepared before now r
+
+pub stopped_ok : (X : Type 0) (words : List (List ℕ)) (n : ℕ) (from : Given → Result X Ending) (tasks : (given : Given) (e : Ending) → from given ≡ Err e → task_by words given ≡ Err e)
+    → (old new : Option Shelf) (before now : ℕ) (e : Stop) (r : Result Answer NoMemory) → Gathers words n from old (Err e) → AsksFiles {X = X} words n old new (Err e)
+    → CountsRead {T = X} before now (Err e) → IfOk r (AnswersStop e) → IsPrepared words old new before now r
+stopped_ok X words n from tasks old new before now e (Ok a) gives asked count answers = record {
+  suits = stop_suits words n from tasks old e a gives answers;
+  asked = stop_asks words n from tasks old old new e (Ok a) gives asked answers;
+  cause = stop_counts X before now e (Ok a) count answers;
+}
+stopped_ok X words n from tasks old new before now e (Err m) gives asked count answers = record {
+  suits = tt;
+  asked = stop_asks words n from tasks old old new e (Err m) gives asked answers;
+  cause = stop_counts X before now e (Err m) count answers;
+}
+
+-- ---- which files each command reads
+
+paths_read : (words : List (List ℕ)) (c : Command) → command_of words ≡ Some c → reads_of words ≡ values_in (pairs_after words) (form_in words (Some c)).reads
+paths_read words c is = ap (λ o. values_in (pairs_after words) (form_in words o).reads) is
+
+four_read : (words : List (List ℕ)) → command_of words ≡ Some command.Fit → take 4 (reads_of words) ≡ reads_of words
+four_read words is = subst (λ paths. take 4 paths ≡ paths) (sym (paths_read words command.Fit is)) refl
+
+five_read : (words : List (List ℕ)) → command_of words ≡ Some command.Measure → take 5 (reads_of words) ≡ reads_of words
+five_read words is = subst (λ paths. take 5 paths ≡ paths) (sym (paths_read words command.Measure is)) refl
+
+all_of : (names : List (List ℕ)) (n : ℕ) (old new : Option Shelf) → take n names ≡ names → new ≡ option_map (asks_all (take n names)) old → new ≡ option_map (asks_all names) old
+all_of names n old new all asked = asked ∙ ap (λ ns. option_map (asks_all ns) old) all
+
+prefix_of : (names : List (List ℕ)) (n : ℕ) (old new : Option Shelf) → take n names ≡ names → new ≡ option_map (asks_all (take n names)) old → AsksPrefix names old new
+prefix_of names n old new all asked = asks_whole names old new (all_of names n old new all asked)
+
+-- ---- `fit`
+
+fit_tasks : (words : List (List ℕ)) → command_of words ≡ Some command.Fit → (given : Given) (e : Ending) → inputs_from given ≡ Err e → task_by words given ≡ Err e
+fit_tasks words is given e stops = fit_task words given (Err e) is stops
+
+pub fit_stopped : (words : List (List ℕ)) → command_of words ≡ Some command.Fit → (old new : Option Shelf) (before now : ℕ) (e : Stop) (r : Result Answer NoMemory)
+    → Gathers words 4 inputs_from old (Err e) → AsksFiles {X = Inputs} words 4 old new (Err e) → CountsRead {T = Inputs} before now (Err e) → IfOk r (AnswersStop e) → IsPrepared words old new before now r
+fit_stopped words is = stopped_ok Inputs words 4 inputs_from (fit_tasks words is)
+
+pub fit_done : (words : List (List ℕ)) → command_of words ≡ Some command.Fit → (old new : Option Shelf) (before now : ℕ) (i : Inputs) (r : Result Answer NoMemory)
+    → Gathers words 4 inputs_from old (Ok i) → new ≡ option_map (asks_all (take 4 (reads_of words))) old → now ≡ before
+    → IfOk r (λ a. a.cause ≡ cause.Done) → IfOk r (IsFitted i) → IsPrepared words old new before now r
+fit_done words is old new before now i (Ok a) gives asked same done fitted = record {
+  suits = subst (λ k. SuitsBy k words old a) (sym done) (command.Fit, (i, (is, gathered words 4 inputs_from old i gives), fitted));
+  asked = subst (λ k. AsksBy k words old new) (sym done) (all_of (reads_of words) 4 old new (four_read words is) asked);
+  cause = subst (λ k. CountsBy k before now) (sym done) same;
+}
+fit_done words is old new before now i (Err m) gives asked same done fitted = record {
+  suits = tt;
+  asked = prefix_of (reads_of words) 4 old new (four_read words is) asked;
+  cause = omega arith;
+}
+
+-- ---- `measure`
+
+measure_tasks : (words : List (List ℕ)) → command_of words ≡ Some command.Measure → (given : Given) (e : Ending) → survey_from words given ≡ Err e → task_by words given ≡ Err e
+measure_tasks words is given e stops = measure_task words given (Err e) is stops
+
+pub measure_stopped : (words : List (List ℕ)) → command_of words ≡ Some command.Measure → (old new : Option Shelf) (before now : ℕ) (e : Stop) (r : Result Answer NoMemory)
+    → Surveys words old (Err e) → AsksFiles {X = Counted} words 5 old new (Err e) → CountsRead {T = Counted} before now (Err e) → IfOk r (AnswersStop e) → IsPrepared words old new before now r
+measure_stopped words is old new before now (stop.Refused f) r gives asked count answers = stopped_ok Survey words 5 (survey_from words) (measure_tasks words is) old new before now (stop.Refused f) r gives asked count answers
+measure_stopped words is old new before now (stop.Read f) r gives asked count answers = stopped_ok Survey words 5 (survey_from words) (measure_tasks words is) old new before now (stop.Read f) r gives asked count answers
+measure_stopped words is old new before now stop.NoMemory r gives asked count answers = stopped_ok Survey words 5 (survey_from words) (measure_tasks words is) old new before now stop.NoMemory r gives asked count answers
+
+module _ (words : List (List ℕ)) (is : command_of words ≡ Some command.Measure) (shelf : Option Shelf) (v : Survey) (c : Counted) (counted : IsCounted v c) (gives : Gathers words 5 (survey_from words) shelf (Ok v)) where
+  survey_is : IsDetermined (IsNoise (variances_of c.schema c.spine)) → HasSurvey words shelf v
+  survey_is one = record {
+    is = is;
+    held = gathered words 5 (survey_from words) shelf v gives;
+    one = subst (λ sp. IsDetermined (IsNoise (variances_of v.schema sp))) counted.spine (subst (λ s. IsDetermined (IsNoise (variances_of s c.spine))) counted.schema one);
+  }
+
+  stops_same : (status : ℕ) (a : Answer) → StopsWith c.schema c.spine (noise_words c.noise) status a → StopsWith v.schema v.spine v.words status a
+  stops_same status a stops =
+      subst (λ w. StopsWith v.schema v.spine w status a) counted.words
+      (subst (λ sp. StopsWith v.schema sp (noise_words c.noise) status a) counted.spine
+      (subst (λ s. StopsWith s c.spine (noise_words c.noise) status a) counted.schema stops))
+
+  noise_suits : (k : Cause) (a : Answer) → IsDetermined (IsNoise (variances_of c.schema c.spine)) → AnswersBy k c (noise_words c.noise) a → SuitsBy k words shelf a
+  noise_suits cause.Done a one answers = (command.Measure, (v, survey_is one, measures v c counted a answers))
+  noise_suits cause.Words a one answers = absurd answers
+  noise_suits (cause.Refused f) a one answers = absurd answers
+  noise_suits (cause.Read f) a one answers = absurd answers
+  noise_suits cause.OutOfWords a one answers = (v, survey_is one, stops_same 6 a answers)
+  noise_suits cause.TooLarge a one answers = (v, survey_is one, stops_same 7 a answers)
+
+  noise_asks : (k : Cause) (a : Answer) (new : Option Shelf) → AnswersBy k c (noise_words c.noise) a → new ≡ option_map (asks_all (take 5 (reads_of words))) shelf → AsksBy k words shelf new
+  noise_asks cause.Done a new answers asked = all_of (reads_of words) 5 shelf new (five_read words is) asked
+  noise_asks cause.Words a new answers asked = absurd answers
+  noise_asks (cause.Refused f) a new answers asked = absurd answers
+  noise_asks (cause.Read f) a new answers asked = absurd answers
+  noise_asks cause.OutOfWords a new answers asked = all_of (reads_of words) 5 shelf new (five_read words is) asked
+  noise_asks cause.TooLarge a new answers asked = all_of (reads_of words) 5 shelf new (five_read words is) asked
+
+  noise_counts : (k : Cause) (a : Answer) (before now : ℕ) → AnswersBy k c (noise_words c.noise) a → now ≡ before → CountsBy k before now
+  noise_counts cause.Done a before now answers same = same
+  noise_counts cause.Words a before now answers same = same
+  noise_counts (cause.Refused f) a before now answers same = same
+  noise_counts (cause.Read f) a before now answers same = absurd answers
+  noise_counts cause.OutOfWords a before now answers same = same
+  noise_counts cause.TooLarge a before now answers same = same
+
+  pub measure_done : (new : Option Shelf) (before now : ℕ) (r : Result Answer NoMemory) → new ≡ option_map (asks_all (take 5 (reads_of words))) shelf → now ≡ before
+      → IfOk r (AnswersNoise c (noise_words c.noise)) → IfOk r (λ a. IsDetermined (IsNoise (variances_of c.schema c.spine))) → IsPrepared words shelf new before now r
+  measure_done new before now (Ok a) asked same answers one = record {
+    suits = noise_suits a.cause a one answers;
+    asked = noise_asks a.cause a new answers asked;
+    cause = noise_counts a.cause a before now answers same;
+  }
+  measure_done new before now (Err m) asked same answers one = record {
+    suits = tt;
+    asked = prefix_of (reads_of words) 5 shelf new (five_read words is) asked;
+    cause = omega arith;
+  }

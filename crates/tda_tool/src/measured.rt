@@ -1,0 +1,190 @@
+// What `measure` answers.
+ghost use Rattle.std.specs.Prelude.{◌≡◌, ◌<◌, ◌≤◌, codes, length, string_bytes, sum, IfOk};
+ghost use Rattle.tda_frac.specs.Fraction.{text_of};
+ghost use Rattle.tda_model.specs.Bounds.{persons_limit};
+ghost use Rattle.tda_schema.specs.Shares.{frac_of, spent_of};
+ghost use Rattle.tda_invar.specs.Totals.{totals_text};
+ghost use Rattle.tda_ledger.specs.LedgerText.{ledger_text};
+ghost use Rattle.tda_out.specs.Counts.{count_at, AreCountsOf};
+ghost use Rattle.tda_hist.specs.TrueTable.{totals_of};
+ghost use Rattle.tda_places.specs.Measurements.{measurements_text, AreMeasurementsOf};
+ghost use Rattle.tda_places.specs.Places.{places_of};
+ghost use Rattle.tda_measure.specs.Noise.{variances_of, IsDetermined, IsNoise};
+ghost use Rattle.tda_tool.specs.Measuring.{place_text, measured_ending};
+ghost use Rattle.tda_tool.specs.Ending.{out_of_words_ending, too_large_ending};
+ghost use Rattle.tda_tool.specs.Reading.{noise_words};
+ghost use Rattle.tda_tool.specs.Answer.{IsOutput, ReportsAlone, Tells, AnswersNoise, CanBeMeasured};
+
+use crate::answer::{Answer, Cause, Output};
+use crate::counted::Counted;
+use crate::noise::Noise;
+use std::alloc::Global;
+use tda_hist::state_totals;
+use tda_invar::write_totals;
+use tda_io::NoMemory;
+use tda_ledger::{make_ledger, write_ledger};
+use tda_measure::{MeasureStop, measure};
+use tda_places::{Measurements, count, place_at, write_measurements};
+use tda_schema::Schema;
+use tda_words::{ListWords, SeedWords, Words};
+
+// A place as it is printed: the unit's code, the query's name and the class's number.
+fn place_text(alloc: Global, counted: &Counted, index: u64) -> Result<String, NoMemory>
+    requires belong { counted.now.spine.depth ≡ length counted.now.schema.levels }
+    requires index { index < length (places_of counted.now.schema counted.now.spine) }
+    ensures { IfOk result (λ t. string_bytes t ≡ place_text counted.now.schema counted.now.spine index) }
+{
+    let schema = &counted.schema;
+    let spine = &counted.spine;
+    let place = place_at(schema, spine, index);
+    let code = spine.code(place.unit);
+    let query = schema.query_name(spine.level(place.unit), place.query as usize);
+    let class = place.class;
+    Ok(format!(in alloc; "{code} {query} {class}")?)
+}
+
+// That the words end before the number of a place.
+fn out_of_words(alloc: Global, counted: &Counted, index: u64) -> Result<Answer, NoMemory>
+    requires belong { counted.now.spine.depth ≡ length counted.now.schema.levels }
+    requires index { index < length (places_of counted.now.schema counted.now.spine) }
+    ensures cause { IfOk result (λ a. a.cause ≡ Cause.OutOfWords) }
+    ensures alone { IfOk result (ReportsAlone (out_of_words_ending (place_text counted.now.schema counted.now.spine index))) }
+{
+    let place = place_text(alloc, counted, index)?;
+    let report = format!(in alloc; "out of words {place}\n")?.into_bytes();
+    Ok(Answer::alone(alloc, Cause::OutOfWords, report))
+}
+
+// That a magnitude passes its limit in the draw of a place.
+fn too_large(
+    alloc: Global,
+    counted: &Counted,
+    index: u64,
+    magnitude: i64,
+) -> Result<Answer, NoMemory>
+    requires belong { counted.now.spine.depth ≡ length counted.now.schema.levels }
+    requires index { index < length (places_of counted.now.schema counted.now.spine) }
+    ensures cause { IfOk result (λ a. a.cause ≡ Cause.TooLarge) }
+    ensures alone { IfOk result (ReportsAlone (too_large_ending (place_text counted.now.schema counted.now.spine index) magnitude)) }
+{
+    let place = place_text(alloc, counted, index)?;
+    let report = format!(in alloc; "too large {place} {magnitude}\n")?.into_bytes();
+    Ok(Answer::alone(alloc, Cause::TooLarge, report))
+}
+
+// The file of the measurements.
+fn measurements_output(
+    alloc: Global,
+    counted: &Counted,
+    m: &Measurements,
+) -> Result<Output, NoMemory>
+    requires belong { counted.now.spine.depth ≡ length counted.now.schema.levels }
+    requires measured { AreMeasurementsOf counted.now.schema counted.now.spine m.now }
+    ensures { IfOk result (IsOutput (codes "measurements") (measurements_text counted.now.schema counted.now.spine m.now)) }
+{
+    let mut text = Vec::new(alloc);
+    write_measurements(&counted.schema, &counted.spine, m, &mut text)?;
+    Ok(Output {
+        name: "measurements",
+        text,
+    })
+}
+
+// The file of the states' totals.
+fn totals_output(alloc: Global, counted: &Counted) -> Result<Output, NoMemory>
+    requires tables { AreCountsOf counted.now.schema counted.now.spine counted.now.tables }
+    requires few { sum (totals_of counted.now.schema counted.now.spine (count_at counted.now.tables)) ≤ persons_limit }
+    ensures { IfOk result (IsOutput (codes "totals") (totals_text counted.now.spine (totals_of counted.now.schema counted.now.spine (count_at counted.now.tables)))) }
+{
+    let totals = state_totals(alloc, &counted.schema, &counted.spine, &counted.tables)?;
+    let mut text = Vec::new(alloc);
+    write_totals(&counted.spine, &totals, &mut text)?;
+    Ok(Output {
+        name: "totals",
+        text,
+    })
+}
+
+// The file of the ledger.
+fn ledger_output(alloc: Global, counted: &Counted) -> Result<Output, NoMemory>
+    ensures { IfOk result (IsOutput (codes "ledger") (ledger_text counted.now.schema)) }
+{
+    let ledger = make_ledger(alloc, &counted.schema)?;
+    let mut text = Vec::new(alloc);
+    write_ledger(&counted.schema, &ledger, &mut text)?;
+    Ok(Output {
+        name: "ledger",
+        text,
+    })
+}
+
+// What all queries spend together, as it is printed.
+fn spent_text(alloc: Global, schema: &Schema) -> Result<String, NoMemory>
+    ensures { IfOk result (λ t. string_bytes t ≡ text_of (frac_of (spent_of schema.now))) }
+{
+    let spent = schema.spent();
+    let num = spent.num();
+    let den = spent.den();
+    Ok(format!(in alloc; "{num}/{den}")?)
+}
+
+// The line that tells how many places were measured, what that spends, and how many words were taken.
+fn line(alloc: Global, counted: &Counted, taken: u64) -> Result<Vec<u8>, NoMemory>
+    requires belong { counted.now.spine.depth ≡ length counted.now.schema.levels }
+    ensures { IfOk result (λ v. v.items ≡ (measured_ending counted.now.schema counted.now.spine taken).report) }
+{
+    let places = count(&counted.schema, &counted.spine);
+    let spent = spent_text(alloc, &counted.schema)?;
+    Ok(format!(in alloc; "ok measure places={places} spent={spent} words={taken}\n")?.into_bytes())
+}
+
+// That all is measured.
+fn done(alloc: Global, counted: &Counted, m: &Measurements, taken: u64) -> Result<Answer, NoMemory>
+    requires belong { counted.now.spine.depth ≡ length counted.now.schema.levels }
+    requires measured { AreMeasurementsOf counted.now.schema counted.now.spine m.now }
+    requires tables { AreCountsOf counted.now.schema counted.now.spine counted.now.tables }
+    requires few { sum (totals_of counted.now.schema counted.now.spine (count_at counted.now.tables)) ≤ persons_limit }
+    ensures cause { IfOk result (λ a. a.cause ≡ Cause.Done) }
+    ensures made { IfOk result (Tells counted.now.schema counted.now.spine m.now (totals_of counted.now.schema counted.now.spine (count_at counted.now.tables)) taken) }
+{
+    let mut outputs = Vec::new(alloc);
+    outputs.push(measurements_output(alloc, counted, m)?)?;
+    outputs.push(totals_output(alloc, counted)?)?;
+    outputs.push(ledger_output(alloc, counted)?)?;
+    Ok(Answer {
+        cause: Cause::Done,
+        outputs,
+        report: line(alloc, counted, taken)?,
+    })
+}
+
+// What is measured with these words.
+fn measured_with<W: Words>(alloc: Global, counted: &Counted, w: &mut W) -> Result<Answer, NoMemory>
+    requires fresh { W.taken w.old ≡ 0 }
+    requires counted { CanBeMeasured counted.now }
+    ensures noise { IfOk result (AnswersNoise counted.now (W.words w.old)) }
+    ensures one { IfOk result (λ a. IsDetermined (IsNoise (variances_of counted.now.schema counted.now.spine))) }
+{
+    match measure(alloc, &counted.schema, &counted.spine, &counted.tables, w) {
+        Ok(m) => done(alloc, counted, &m, w.taken()),
+        Err(MeasureStop::OutOfWords(index)) => out_of_words(alloc, counted, index),
+        Err(MeasureStop::TooLarge(index, magnitude)) => too_large(alloc, counted, index, magnitude),
+        Err(MeasureStop::NoMemory) => Err(NoMemory),
+    }
+}
+
+/// The measurements, the totals of the states and the ledger, or the place at which the noise stops.
+pub(crate) fn measured(alloc: Global, counted: &Counted) -> Result<Answer, NoMemory>
+    requires { CanBeMeasured counted.now }
+    ensures noise { IfOk result (AnswersNoise counted.now (noise_words counted.now.noise)) }
+    ensures one { IfOk result (λ a. IsDetermined (IsNoise (variances_of counted.now.schema counted.now.spine))) }
+{
+    match &counted.noise {
+        Noise::Words(bytes) => measured_with(alloc, counted, &mut ListWords::new(bytes)),
+        Noise::Seed {
+            seed,
+            place,
+            budget,
+        } => measured_with(alloc, counted, &mut SeedWords::new(seed, *place, *budget)),
+    }
+}
