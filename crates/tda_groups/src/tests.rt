@@ -120,8 +120,24 @@ fn groups_of_classes(rt: HostRuntime) -> Result<(), Fail> {
     let schema = read_schema(rt.alloc(), PRISON.as_bytes())?;
     assert!(rt; 1 < schema.levels());
     assert!(rt; schema.queries(1) == 2);
-    assert!(rt; schema.classes(1, 1).len() == 5);
+    assert!(rt; schema.classes(1, 0).len() == 1 && schema.classes(1, 1).len() == 5);
     let tree = tree(rt.alloc(), &schema, 1)?;
-    assert_eq!(rt; of_class(&schema, &tree, 1, 1, 3), 6);
+    let found = (
+        of_class(&schema, &tree, 1, 0, 0),
+        of_class(&schema, &tree, 1, 1, 3),
+    );
+    assert_eq!(rt; found, (0, 6));
+    Ok(())
+}
+
+const ONE_KIND: &str = "version = 1\ntotal = '1'\nattribute = [{ name = 'kind', values = ['house'] }, { name = 'sex', values = ['f', 'm'] }]\nlevel = [{ name = 'nation' }, { name = 'block' }]";
+
+#[test]
+fn the_group_of_the_only_kind(rt: HostRuntime) -> Result<(), Fail> {
+    let schema = read_schema(rt.alloc(), ONE_KIND.as_bytes())?;
+    assert!(rt; 0 < schema.levels() && schema.kinds() == 1);
+    let tree = tree(rt.alloc(), &schema, 0)?;
+    let found = (tree.len(), of_kind(&schema, &tree, 0, 0));
+    assert_eq!(rt; found, (1, 0));
     Ok(())
 }

@@ -19,7 +19,7 @@ const SCHEMA: &[u8] =
 const SPINE: &[u8] =
     b"unit,level,parent\nUS,nation,\nS1,state,US\nB1,block,S1\nS2,state,US\nB2,block,S2\n";
 
-// So far the schema has the kind of households alone, so no facility is accepted.
+// This schema has the kind of households alone, so no facility is accepted.
 const FACILITIES: [(&str, FacFault); 14] = [
     ("block,kind,count\nB1,house\n", FacFault::BadRow(2)),
     ("block,kind\nB1,house,1\n", FacFault::BadRow(2)),

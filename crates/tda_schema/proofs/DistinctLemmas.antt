@@ -1,7 +1,9 @@
 -- A loop over texts that stops at one that stood before.
-use Rattle.std.proofs.Common.{◌≡◌, ℕ, Bool, true, false, not, ◌&&◌, ◌||◌, ◌+◌, ◌<◌, List, [], ◌∷◌, ◌++◌, length, get_or, take, drop, map, Bor, cond, refl, sym, ap, ◌∙◌}
+use Rattle.std.proofs.Common.{◌≡◌, ℕ, Bool, true, false, not, ◌&&◌, ◌||◌, ◌+◌, ◌<◌, All, List, [], ◌∷◌, ◌++◌, length, get_or, take, drop, map, Bor, cond, refl, sym, ap, ◌∙◌}
 use Rattle.std.proofs.lemmas.Bool.{and_parts}
-use Rattle.std.proofs.lemmas.List.{drop_more, take_more, map_push}
+use Rattle.std.proofs.lemmas.List.{drop_more, take_more, map_push, take-append-drop}
+use Rattle.std.proofs.lemmas.List.Elements.{All-cons, All-nil}
+use Rattle.std.proofs.lemmas.List.Folds.{list_any-append}
 use Rattle.std.specs.List.{list_any}
 use Rattle.std.specs.Str.{bytes_eq}
 use Rattle.std.proofs.Math.Bool.{or-false}
@@ -113,3 +115,28 @@ are_distinct-back (x ∷ xs) ys h = are_distinct-back xs ys (and_parts _ _ h).1
 pub map-map : {X Y Z : Type 0} (f : Y → Z) (g : X → Y) (xs : List X) → map f (map g xs) ≡ map (λ x. f (g x)) xs
 map-map f g [] = refl
 map-map f g (x ∷ xs) = ap (λ ys. f (g x) ∷ ys) (map-map f g xs)
+
+-- each of texts that are distinct is apart from those before it
+distinct_apart : (xs ys : List (List ℕ)) (y : List ℕ) → are_distinct (xs ++ y ∷ ys) ≡ true → All (λ x. y ≡ x → ⊥) xs
+distinct_apart [] ys y h = All-nil (λ x. y ≡ x → ⊥)
+distinct_apart (x ∷ xs) ys y h =
+    let parts = and_parts _ _ h in
+    All-cons (λ z. y ≡ z → ⊥) x xs (λ same. apart same parts.0) (distinct_apart xs ys y parts.1)
+  where
+    seen : y ≡ x → list_any (bytes_eq x) (xs ++ y ∷ ys) ≡ true
+    seen same =
+        list_any-append (bytes_eq x) xs (y ∷ ys)
+        ∙ ap (λ b. list_any (bytes_eq x) xs || (b || list_any (bytes_eq x) ys)) ((bytes_eq-Decides x y).1 (sym same))
+        ∙ by (list_any (bytes_eq x) xs)
+      where
+        by : (b : Bool) → (b || true) ≡ true
+        by true = refl
+        by false = refl
+
+    apart : y ≡ x → not (list_any (bytes_eq x) (xs ++ y ∷ ys)) ≡ true → ⊥
+    apart same none = let no : not true ≡ true = ap not (sym (seen same)) ∙ none in cc
+
+pub apart_before : (xs : List (List ℕ)) (k : ℕ) (d : List ℕ) → k < length xs → are_distinct xs ≡ true → All (λ x. get_or xs k d ≡ x → ⊥) (take k xs)
+apart_before xs k d below h =
+    let whole : take k xs ++ get_or xs k d ∷ drop (k + 1) xs ≡ xs = ap (λ ys. take k xs ++ ys) (sym (drop_more xs k d below)) ∙ take-append-drop k xs in
+    distinct_apart (take k xs) (drop (k + 1) xs) (get_or xs k d) (ap are_distinct whole ∙ h)

@@ -5,6 +5,7 @@ pub mod Each
 pub mod KeyLemmas
 pub mod Documents
 pub mod DistinctLemmas
+pub mod TextLemmas
 pub mod OriginLemmas
 pub mod Finding
 pub mod KnownLemmas

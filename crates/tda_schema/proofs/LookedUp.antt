@@ -1,6 +1,6 @@
 -- A written schema that passes the tests of names, repetition, sizes and known names states one whose names are looked up.
-use Rattle.std.proofs.Common.{◌≡◌, ℕ, zero, suc, ◌≤◌, ◌<◌, ◌+◌, Bool, true, false, ◌||◌, ◌==◌, List, [], ◌∷◌, length, map, get_or, find, slice_get, All, Option, Some, None, is_some, nat_le, refl, sym, ap, ◌∙◌, arith, if◌then◌else◌}
-use Rattle.std.specs.List.{list_all, list_any, AllPass, position_or_len}
+use Rattle.std.proofs.Common.{◌≡◌, ℕ, ◌≤◌, ◌<◌, Bool, true, false, ◌||◌, ◌==◌, List, [], length, map, get_or, slice_get, All, Some, None, refl, sym, ap, ◌∙◌, arith, if◌then◌else◌}
+use Rattle.std.specs.List.{list_all, AllPass}
 use Rattle.std.specs.Option.{option_map_or}
 use Rattle.std.specs.Str.{bytes_eq}
 use Rattle.std.proofs.lemmas.Bool.{and_parts, leb-true, eqb-true}
@@ -11,8 +11,8 @@ use Rattle.tda_model.specs.Schema.{Attribute, Attribute_values, Recode_labels, S
 use Rattle.tda_model.specs.Cells.{cells_in}
 use Rattle.tda_schema.specs.Raw.{RawRecode, RawListed, RawQuery, RawLevel, RawSchema}
 use Rattle.tda_schema.specs.Origins.{origins_of}
-use Rattle.tda_schema.specs.Names.{is_name, attribute_has_names, recode_has_names, query_has_name, level_has_names, has_names, are_distinct, attribute_is_distinct, level_is_distinct, is_distinct}
-use Rattle.tda_schema.specs.Sizes.{is_within, attribute_has_size, level_has_size, attribute_named, recode_has_size, has_sizes}
+use Rattle.tda_schema.specs.Names.{is_name, attribute_has_names, query_has_name, level_has_names, has_names, are_distinct, attribute_is_distinct, level_is_distinct, is_distinct}
+use Rattle.tda_schema.specs.Sizes.{is_within, attribute_has_size, level_has_size, recode_has_size, has_sizes}
 use Rattle.tda_schema.specs.Known.{is_attribute, is_recode, is_value, recode_is_known, listed_is_known, row_is_known, entry_is_known, query_is_known, level_is_known, knows_names}
 use Rattle.tda_schema.specs.Readers.{values_of, IsWithinLimits, IsNamed}
 use Rattle.tda_schema.specs.Stated.{IsListedOf, IsRecodeOf, IsEntryOf, IsQueryOf, IsLevelOf, IsLookedUp}
@@ -76,10 +76,12 @@ module _ (raw : RawSchema) where
   named names distinct =
       let parts = and_parts _ _ names in
       let attributes = (and_parts _ _ parts.0).0 in
-      let levels = (and_parts _ _ (and_parts _ (list_all (level_is_distinct (origins_of raw.recodes)) raw.levels) distinct).0).1 in
+      let earlier = (and_parts _ (list_all (level_is_distinct (origins_of raw.recodes)) raw.levels) distinct).0 in
+      let levels = (and_parts _ _ earlier).1 in
       record {
         attributes = all_by attribute_has_names (λ a. is_name a.name ≡ true) (λ a h. (and_parts _ _ h).0) raw.attributes attributes;
         values = all_by attribute_has_names (λ a. AllPass is_name a.values) (λ a h. AllPass-from_list_all is_name a.values (and_parts _ _ h).1) raw.attributes attributes;
+        values_distinct = AllPass-from_list_all attribute_is_distinct raw.attributes (and_parts _ _ (and_parts _ _ earlier).0).1;
         levels = All-map (λ l. is_name l.name ≡ true) (level_stated raw) raw.levels (all_by level_has_names (λ l. is_name l.name ≡ true) (λ l h. (and_parts _ _ h).0) raw.levels parts.1);
         distinct = ap are_distinct (map-map (λ l. l.name) (level_stated raw) raw.levels) ∙ levels;
       }

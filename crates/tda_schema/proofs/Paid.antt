@@ -1,5 +1,5 @@
 -- A written schema whose shares are paid states one whose shares are.
-use Rattle.std.proofs.Common.{◌≡◌, ℕ, ◌≤◌, ◌*◌, true, false, List, map, All, Option, Some, None, refl}
+use Rattle.std.proofs.Common.{◌≡◌, ℕ, ◌≤◌, ◌*◌, true, false, List, Option, Some, None}
 use Rattle.std.specs.List.{list_all}
 use Rattle.std.specs.Option.{option_map_or}
 use Rattle.std.proofs.lemmas.Bool.{and_parts, leb-true}
@@ -7,7 +7,7 @@ use Rattle.std.proofs.lemmas.List.Elements.{All-map}
 use Rattle.tda_frac.specs.Fraction as frac
 use Rattle.tda_model.specs.Schema.{Fraction, Schema}
 use Rattle.tda_schema.specs.Lowest.{fraction_in}
-use Rattle.tda_schema.specs.Raw.{RawQuery, RawLevel, RawSchema}
+use Rattle.tda_schema.specs.Raw.{RawLevel, RawSchema}
 use Rattle.tda_schema.specs.Stated.{fraction_of}
 use Rattle.tda_schema.specs.Stating.{query_stated, level_stated, stated}
 use Rattle.tda_schema.specs.Shares.{is_total, is_share, text_passes, query_is_paid, level_is_paid, is_paid, fraction_stated, IsShare, QueriesArePaid, IsPaid}

@@ -20,7 +20,7 @@ use Rattle.tda_schema.specs.Whole.{IsWhole}
 use Rattle.tda_schema.proofs.Commons.{least_common}
 use Rattle.tda_schema.proofs.Spent.{have_denominators, some_common, levels_divide, spent_parts}
 
-module _ (s : Schema) (m : ℕ) (f : frac.Fraction) (p : Parts) (whole : IsWhole s m f p) where
+module _ (s : Schema) (m : ℕ) (f : frac.Fraction) (p : Parts) (values : List (List (List ℕ))) (whole : IsWhole s m f p values) where
   small_denominators : (s.total.den ≤ denominator_limit) × (common_of s ≤ denominator_limit)
   small_denominators =
       let tests = and_parts _ _ whole.denominators in

@@ -3,7 +3,7 @@ use Rattle.std.specs.Prelude.{◌≡◌, ℕ, ◌≤◌, true, List, [], length,
 use Rattle.std.specs.List.{AllPass}
 use Rattle.tda_model.specs.Schema.{Schema}
 use Rattle.tda_model.specs.Cells.{cell_count}
-use Rattle.tda_schema.specs.Names.{is_name, are_distinct}
+use Rattle.tda_schema.specs.Names.{is_name, are_distinct, attribute_is_distinct}
 
 -- the values of an attribute, by its number
 abbrev pub values_of : Schema → ℕ → List (List ℕ)
@@ -19,9 +19,10 @@ pub record IsWithinLimits (s : Schema) : Type 0 where
   pub some_levels : 2 ≤ length s.levels
   pub levels : length s.levels ≤ 7
 
--- names are names, and no two levels have the same
+-- names are names, and no two values of an attribute and no two levels have the same
 pub record IsNamed (s : Schema) : Type 0 where
   pub attributes : AllPass (λ a. is_name a.name) s.attributes
   pub values : All (λ a. AllPass is_name a.values) s.attributes
+  pub values_distinct : AllPass attribute_is_distinct s.attributes
   pub levels : AllPass (λ l. is_name l.name) s.levels
   pub distinct : are_distinct (map (λ l. l.name) s.levels) ≡ true

@@ -55,7 +55,7 @@ const ACCEPTED: [&str; 4] = [
 
 // What is no document, and keys. A key that isn't listed is told before one that is missing earlier in the document, and
 // both before a value of another type. What is no element of an array has no keys of its own, and so hasn't a zero row.
-const KEYS: [(&str, SchemaFault); 17] = [
+const KEYS: [(&str, SchemaFault); 19] = [
     ("version =", BadToml),
     ("version = 1\nversion = 1", BadToml),
     ("", MissingKey),
@@ -85,6 +85,14 @@ const KEYS: [(&str, SchemaFault); 17] = [
     ),
     (
         "version = 1\ntotal = '1'\nattribute = [{name = 'k', values = ['h']}]\nlevel = [{name = 'n'}, {name = 'b'}]\nlevels = []",
+        UnknownKey,
+    ),
+    (
+        "version = 1\ntotal = '1'\nattribute = [{name = 'k', values = ['h'], value = 'h'}]\nlevel = [{name = 'n'}, {name = 'b'}]",
+        UnknownKey,
+    ),
+    (
+        "version = 1\ntotal = '1'\nattribute = [{name = 'k', values = ['h']}]\nrecode = [{name = 'r', of = 'k', map = ['x'], by = []}]\nlevel = [{name = 'n'}, {name = 'b'}]",
         UnknownKey,
     ),
     (
@@ -119,7 +127,7 @@ const KEYS: [(&str, SchemaFault); 17] = [
 
 // Values of another type: a version that is no integer or another one, a table where an array of tables is wanted, by a
 // dotted key, in line or under its header, and texts and arrays of texts.
-const TYPES: [(&str, SchemaFault); 15] = [
+const TYPES: [(&str, SchemaFault); 19] = [
     (
         "version = 2\ntotal = '1'\nattribute = []\nlevel = []",
         WrongType,
@@ -173,7 +181,23 @@ const TYPES: [(&str, SchemaFault); 15] = [
         WrongType,
     ),
     (
+        "version = 1\ntotal = '1'\nattribute = []\nrecode = [{name = 'r', of = 'k', map = [1]}]\nlevel = []",
+        WrongType,
+    ),
+    (
         "version = 1\ntotal = '1'\nattribute = []\nzero = {}\nlevel = []",
+        WrongType,
+    ),
+    (
+        "version = 1\ntotal = '1'\nattribute = []\nzero = [{k = [1]}]\nlevel = []",
+        WrongType,
+    ),
+    (
+        "version = 1\ntotal = '1'\nattribute = []\nlevel = [{name = 1}]",
+        WrongType,
+    ),
+    (
+        "version = 1\ntotal = '1'\nattribute = []\nlevel = [{name = 'n', query = [{name = 'q', by = [], share = 1}]}]",
         WrongType,
     ),
     (
@@ -466,7 +490,7 @@ const REFERENCES: [(&str, &str, &str, Option<SchemaFault>); 31] = [
 ];
 
 // A total, and the shares of queries.
-const SHARES: [(&str, &[&str], Option<SchemaFault>); 44] = [
+const SHARES: [(&str, &[&str], Option<SchemaFault>); 45] = [
     ("1", &[], None),
     ("0", &[], None),
     ("16", &["16/1"], None),
@@ -475,6 +499,7 @@ const SHARES: [(&str, &[&str], Option<SchemaFault>); 44] = [
     ("1/3", &["1/3"], None),
     ("2/6", &["3/9"], None),
     ("0/1048577", &[], None),
+    ("1/1048576", &[], None),
     ("1", &["1/1048576"], None),
     ("1", &["2/2097152", "3/4"], None),
     ("2097152/2097152", &["1/2"], None),

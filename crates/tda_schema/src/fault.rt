@@ -25,17 +25,20 @@ pub enum SchemaFault {
     /// The name of an attribute, recode, level or query, a value or a label isn't a name.
     #[error("no name")]
     BadName,
-    /// A name stands twice where names have to differ.
+    /// A name stands twice among attributes and recodes, among the values of an attribute, among levels, or among the queries
+    /// of a level; or two entries of a query concern one attribute, by itself or by a recode of it.
     #[error("a name stands twice")]
     Repeated,
-    /// There are too few or too many of something.
+    /// A number is out of its limits: 1 to 8 attributes, 1 to 128 values of each, 1 to 4,096 cells, up to 64 recodes and 4,096
+    /// zero rows, 2 to 7 levels, up to 8 queries of each; or a recode of an attribute has not one label for each of its values.
     #[error("too few or too many")]
     BadSize,
-    /// A name of an attribute, a value or a recode is nobody's.
+    /// A recode is of no attribute, a zero row names no attribute or no value of its attribute, or a query names neither an
+    /// attribute nor a recode.
     #[error("an unknown name")]
     UnknownName,
     /// The total isn't a fraction of at most 16, or a share isn't one above 0 and at most 16.
-    #[error("no share")]
+    #[error("no total or no share")]
     BadShare,
     /// The common denominator of the shares, or the total's denominator, is above 2^20.
     #[error("a denominator is too large")]

@@ -22,11 +22,14 @@ mod shares;
 mod sizes;
 mod stated;
 mod stating;
+mod texts;
 mod typed;
+mod values;
 
 pub use fault::SchemaFault;
 pub use reader::read_schema;
 pub use readers::Schema;
+pub use texts::Texts;
 
 #[cfg(test)]
 mod document_tests;

@@ -21,6 +21,7 @@ use crate::sizes::has_sizes;
 use crate::stated::Stated;
 use crate::stating::stated;
 use crate::typed::typed;
+use crate::values::values_by_text;
 use crate::{Schema, SchemaFault};
 use std::alloc::Global;
 use toml::Table;
@@ -91,11 +92,13 @@ fn whole(alloc: Global, stated: Stated) -> Result<Schema, SchemaFault>
         return Err(SchemaFault::OverTotal);
     };
     let parts = parts_of(alloc, &stated)?;
+    let values = values_by_text(alloc, &stated.attributes)?;
     Ok(Schema {
         stated,
         common,
         spent,
         parts,
+        values,
     })
 }
 

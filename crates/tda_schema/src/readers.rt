@@ -14,23 +14,24 @@ ghost use Rattle.tda_schema.specs.Readers.{values_of, IsWithinLimits};
 ghost use Rattle.tda_schema.specs.Parts.{level_parts, query_parts, ArePartsOf};
 ghost use Rattle.tda_schema.specs.Shares.{common_of, spent_of, frac_of, queries_of, IsLeastCommon};
 ghost use Rattle.tda_schema.specs.Stated.{fraction_of, level_at, queries_at, query_at, class_of, IsQueryOf};
-ghost use Rattle.tda_schema.specs.Kept.{IsQueryKept};
+ghost use Rattle.tda_schema.specs.Kept.{AreQueriesKept, IsQueryKept};
 
 use crate::parts::{LevelParts, Parts, QueryParts};
-use crate::shares;
 use crate::stated::{Attribute, Query, Stated};
+use crate::{Texts, shares};
 use std::marker::Model;
 use tda_frac::Frac;
 
 /// What a schema says: attributes, each with its values, of which the first is the kind of quarters; which cells are
 /// possible; levels from the nation to the block, each with its queries and their shares. Attributes, values, cells,
 /// kinds, levels and queries are numbered from 0.
-#[derive(Debug, Drop)]
+#[derive(Drop)]
 pub struct Schema {
     pub(crate) stated: Stated,
     pub(crate) common: u64,
     pub(crate) spent: Frac,
     pub(crate) parts: Parts,
+    pub(crate) values: Vec<Texts>,
 }
 
 impl Model for Schema {
@@ -41,7 +42,7 @@ impl Model for Schema {
 
     ghost view = { λ s. s.stated };
 
-    ghost invariant = { λ s. IsWhole s.stated s.common s.spent s.parts };
+    ghost invariant = { λ s. IsWhole s.stated s.common s.spent s.parts s.values.items };
 }
 
 impl Schema {
@@ -75,6 +76,15 @@ impl Schema {
         ensures named { AllPass is_name result.now.values }
     {
         &self.stated.attributes[a]
+    }
+
+    // The values of an attribute by their texts.
+    fn value_texts(&self, a: usize) -> &Texts
+        requires { a < length self.now.attributes }
+        ensures value { result.now ≡ values_of self.now a }
+        ensures few { length result.now ≤ 128 }
+    {
+        &self.values[a]
     }
 
     /// The name of an attribute, of 1 to 32 bytes.
@@ -111,7 +121,7 @@ impl Schema {
         requires { a < length self.now.attributes }
         ensures { result ≡ position (λ v. bytes_eq v bytes.now) (values_of self.now a) }
     {
-        match self.attribute(a).find(bytes) {
+        match self.value_texts(a).find(bytes) {
             Some(v) => Some(v as u16),
             None => None,
         }
@@ -166,11 +176,13 @@ impl Schema {
         self.parts().possible[cell as usize]
     }
 
-    /// How many levels there are: 2 to 7, of different names.
+    /// How many levels there are: 2 to 7, of different names. Each of their queries has a name, and a share above 0 and at most
+    /// 16.
     pub fn levels(&self) -> usize
         ensures count { result ≡ length self.now.levels }
         ensures limits { IsWithinLimits self.now }
         ensures distinct { are_distinct (map (λ l. l.name) self.now.levels) ≡ true }
+        ensures queries { AreQueriesKept self.now }
     {
         self.stated.levels.len()
     }

@@ -49,6 +49,8 @@ fn tells_what_a_schema_says(rt: HostRuntime) -> Result<(), Fail> {
         assert_eq!(rt; schema.places(level), 0);
     }
     assert_eq!(rt; schema.find_level(b"county"), None);
+    let paid = (schema.common(), schema.spent().num(), schema.spent().den());
+    assert_eq!(rt; paid, (1, 0, 1));
     Ok(())
 }
 
@@ -143,6 +145,75 @@ fn tells_the_groups_of_the_demo(rt: HostRuntime) -> Result<(), Fail> {
     for (cell, first) in (0..13).zip(CELLS) {
         assert_eq!(rt; class(&schema, 2, 1, cell), first);
     }
+    Ok(())
+}
+
+// The cell of three values, and its kind.
+fn cell_and_kind(schema: &Schema, kind: u16, sex: u16, age: u16) -> Option<(u32, u16)> {
+    if schema.attributes() != 3 {
+        return None;
+    }
+    let known = usize::from(kind) < schema.values(0)
+        && usize::from(sex) < schema.values(1)
+        && usize::from(age) < schema.values(2);
+    if !known {
+        return None;
+    }
+    let cell = schema.cell_of(&[kind, sex, age]);
+    Some((cell, schema.kind_of(cell)))
+}
+
+// Values of the demo's attributes, with their cell and its kind: the last attribute counts fastest.
+const VALUES: [(u16, u16, u16, u32, u16); 5] = [
+    (0, 0, 0, 0, 0),
+    (0, 1, 0, 2, 0),
+    (1, 0, 1, 5, 1),
+    (2, 0, 1, 9, 2),
+    (2, 1, 1, 11, 2),
+];
+
+#[test]
+fn tells_the_cells_of_the_demo(rt: HostRuntime) -> Result<(), Fail> {
+    let schema = read_schema(rt.alloc(), DEMO.as_bytes())?;
+    for (kind, sex, age, cell, kind_of_cell) in VALUES {
+        let found = cell_and_kind(&schema, kind, sex, age);
+        assert_eq!(rt; found, Some((cell, kind_of_cell)));
+    }
+    Ok(())
+}
+
+// An attribute's name, and that of a value of it.
+fn names(schema: &Schema, a: usize, v: u16) -> Option<(&str, &str)> {
+    if a >= schema.attributes() || usize::from(v) >= schema.values(a) {
+        return None;
+    }
+    Some((schema.attribute_name(a), schema.value_name(a, v)))
+}
+
+// Where an attribute has a value of this name.
+fn found(schema: &Schema, a: usize, name: &str) -> Option<u16> {
+    if a >= schema.attributes() {
+        return None;
+    }
+    schema.find_value(a, name.as_bytes())
+}
+
+#[test]
+fn tells_the_names_of_the_demo(rt: HostRuntime) -> Result<(), Fail> {
+    let schema = read_schema(rt.alloc(), DEMO.as_bytes())?;
+    for (a, v, attribute, value) in [
+        (0, 0, "kind", "house"),
+        (0, 2, "kind", "prison"),
+        (1, 1, "sex", "m"),
+        (2, 1, "age", "adult"),
+    ] {
+        let told = names(&schema, a, v);
+        assert!(rt; told == Some((attribute, value)));
+        let place = found(&schema, a, value);
+        assert_eq!(rt; place, Some(v));
+    }
+    let other = found(&schema, 2, "prison");
+    assert_eq!(rt; other, None);
     Ok(())
 }
 

@@ -1,16 +1,14 @@
 -- Codes by number: where a list of codes has one.
-use Rattle.std.proofs.Common.{◌≡◌, ℕ, zero, suc, ◌+◌, ◌<◌, ◌≤◌, All, take, ◌||◌, inl, inr, Bool, true, false, cond, not, nat_lt, List, [], ◌∷◌, ◌++◌, map, length, get_or, Option, Some, None, position, refl, sym, ap, ◌∙◌, arith}
-use Rattle.std.specs.List.{position_or_len, list_any}
+use Rattle.std.proofs.Common.{◌≡◌, ℕ, zero, suc, ◌+◌, ◌<◌, ◌≤◌, All, take, Bool, true, false, cond, not, nat_lt, List, [], ◌∷◌, map, length, get_or, Option, Some, None, position, refl, sym, ap, ◌∙◌, arith}
+use Rattle.std.specs.List.{position_or_len}
 use Rattle.std.specs.Str.{bytes_eq}
-use Rattle.std.specs.Global.{Vec}
 use Rattle.std.specs.Cmp.Lexicographic.{bytes_decides}
-use Rattle.std.proofs.lemmas.List.{length-map, length-take-le, map-append, get_or-map, get_or-take}
+use Rattle.std.proofs.lemmas.List.{length-map, length-take-le, get_or-map, get_or-take}
 use Rattle.std.proofs.lemmas.Option.{slice_get-get_or}
-use Rattle.std.proofs.lemmas.List.Folds.{list_any_none}
 use Rattle.tda_model.specs.Spine.{SpineUnit, code_of}
 use Rattle.tda_spine.specs.Sound.{spine_of, unit_named}
 use Rattle.std.proofs.lemmas.List.Quantifiers.{position-Some}
-use Rattle.std.proofs.lemmas.Bool.{cases_Bool, lt-ltb}
+use Rattle.std.proofs.lemmas.Bool.{lt-ltb}
 
 module _ {X Y : Type 0} (f : X → Y) (p : Y → Bool) where
   first_map : (xs : List X) → position_or_len p (map f xs) ≡ position_or_len (λ x. p (f x)) xs
@@ -47,23 +45,6 @@ module _ {X : Type 0} (p : X → Bool) where
       let some : position p xs ≡ Some (position_or_len p xs) =
       ap (λ b. cond b (Some (position_or_len p xs)) None) (lt-ltb (position_or_len p xs) (length xs) (omega arith)) in
       cc
-
--- codes in keys: a new one goes last
-pub codes_push : (old new : List (Vec ℕ)) (v : Vec ℕ) (code : List ℕ) → v.items ≡ code → All (λ known. code ≡ known → ⊥) (map (λ w. w.items) old)
-    → new ≡ cond (list_any (λ w. bytes_eq v.items w.items) old) old (old ++ v ∷ []) → map (λ w. w.items) new ≡ map (λ w. w.items) old ++ code ∷ []
-codes_push old new v code same fresh e =
-    let absent : list_any (λ w. bytes_eq v.items w.items) old ≡ false =
-    any_map (λ w. w.items) (bytes_eq v.items) old
-    ∙ list_any_none (bytes_eq v.items) (map (λ w. w.items) old) (λ k d lt. other (get_or (map (λ w. w.items) old) k d) (fresh k d lt)) in
-    ap (map (λ w. w.items)) (e ∙ ap (λ b. cond b old (old ++ v ∷ [])) absent) ∙ map-append (λ w. w.items) old (v ∷ [])
-    ∙ ap (λ xs. map (λ w. w.items) old ++ xs ∷ []) same
-  where
-    any_map : {X Y : Type 0} (f : X → Y) (p : Y → Bool) (xs : List X) → list_any (λ x. p (f x)) xs ≡ list_any p (map f xs)
-    any_map f p [] = refl
-    any_map f p (x ∷ xs) = ap (λ b. p (f x) || b) (any_map f p xs)
-
-    other : (known : List ℕ) → (code ≡ known → ⊥) → bytes_eq v.items known ≡ false
-    other known ne = elim (cases_Bool (bytes_eq v.items known)) [ inl is ↦ absurd (ne (sym same ∙ (bytes_decides v.items known).0 is)) | inr is ↦ is ]
 
 -- the codes of the first units, each apart from the next
 pub codes_apart : (units : List SpineUnit) (n : ℕ) (code : List ℕ) → n < length units

@@ -2,9 +2,9 @@
 use Rattle.std.specs.Prelude.{◌==◌, ℕ, Bool, false, List, length, map, Option, Some, None}
 use Rattle.tda_model.specs.Spine.{Spine, children_of, unit_numbers}
 
--- the parent that is named is p
+-- the unit, kind or value that is named has this number
 abbrev pub is_named : ℕ → Option ℕ → Bool
-is_named p parent = elim parent [ Some q ↦ p == q | None ↦ false ]
+is_named p named = elim named [ Some q ↦ p == q | None ↦ false ]
 
 -- how many children each unit has
 abbrev pub child_counts : Spine → List ℕ

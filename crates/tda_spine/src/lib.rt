@@ -1,7 +1,6 @@
 //! The spine: the tree of units, read from a file and judged.
 #![tactic(auto)]
 
-mod codes;
 mod fault;
 mod index;
 mod judge;

@@ -4,19 +4,19 @@ ghost use Rattle.tda_io.specs.Texts.{name_test};
 ghost use Rattle.tda_model.specs.Spine.{IsUnit, level_of, parent_of, code_of, children_of, blocks_of, units_at, nation_of, parents_of};
 ghost use Rattle.tda_spine.specs.Sound.{spine_of, IsSound, unit_named};
 
-use crate::codes::Codes;
 use crate::tree::Tree;
 use crate::unit::SpineUnit;
 use std::alloc::Global;
 use std::marker::Model;
 use tda_io::NoMemory;
+use tda_schema::Texts;
 
 /// The units of the nation in file order, with the tree that they form. Units are numbered from 0.
 #[derive(Drop)]
 pub struct Spine {
     depth: usize,
     units: Vec<SpineUnit>,
-    codes: Codes,
+    codes: Texts,
     tree: Tree,
 }
 
@@ -34,11 +34,11 @@ impl Model for Spine {
 }
 
 // The codes of the units, in order.
-fn codes_of(alloc: Global, units: &[SpineUnit]) -> Result<Codes, NoMemory>
+fn codes_of(alloc: Global, units: &[SpineUnit]) -> Result<Texts, NoMemory>
     requires { (u v : ℕ) → u < v → v < length units.now → code_of (spine_of 0 units.now) u ≡ code_of (spine_of 0 units.now) v → ⊥ }
     ensures { IfOk result (λ codes. codes ≡ map (λ x. x.code) units.now) }
 {
-    let mut codes = Codes::new(alloc);
+    let mut codes = Texts::new(alloc);
     for unit in units {
         codes.push(alloc, unit.code.as_bytes())?;
     }

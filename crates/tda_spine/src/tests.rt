@@ -223,12 +223,29 @@ fn two_counties(alloc: Global) -> Result<String, AllocError> {
     Ok(text)
 }
 
+fn four_levels(alloc: Global) -> Result<Schema, SchemaFault> {
+    read_schema(
+        alloc,
+        b"version = 1\ntotal = \"1\"\n[[attribute]]\nname = \"kind\"\nvalues = [\"house\"]\n[[level]]\nname = \"nation\"\n[[level]]\nname = \"state\"\n[[level]]\nname = \"county\"\n[[level]]\nname = \"block\"\n",
+    )
+}
+
+#[test]
+fn a_county_without_blocks(rt: HostRuntime) -> Result<(), Fail> {
+    let schema = four_levels(rt.alloc())?;
+    let fault = read_spine(
+        rt.alloc(),
+        &schema,
+        b"unit,level,parent\nUS,nation,\nS1,state,US\nC1,county,S1\nC2,county,S1\nB1,block,C1\n",
+    )
+    .err();
+    assert_eq!(rt; fault, Some(Childless(3)));
+    Ok(())
+}
+
 #[test]
 fn first_large_fit_is_that_of_fit_order(rt: HostRuntime) -> Result<(), Fail> {
-    let schema = read_schema(
-        rt.alloc(),
-        b"version = 1\ntotal = \"1\"\n[[attribute]]\nname = \"kind\"\nvalues = [\"house\"]\n[[level]]\nname = \"nation\"\n[[level]]\nname = \"state\"\n[[level]]\nname = \"county\"\n[[level]]\nname = \"block\"\n",
-    )?;
+    let schema = four_levels(rt.alloc())?;
     let text = two_counties(rt.alloc())?;
     assert!(rt; text.len() < 1_000_000);
     let fault = read_spine(rt.alloc(), &schema, text.as_bytes()).err();
@@ -267,6 +284,49 @@ fn most_counts(rt: HostRuntime) -> Result<(), Fail> {
     assert!(rt; text.len() < 1_000_000);
     let schema = read_schema(rt.alloc(), text.as_bytes())?;
     for (blocks, due) in [(1_022, None), (1_023, Some(TooMany))] {
+        let text = wide(rt.alloc(), 1, blocks)?;
+        assert!(rt; text.len() < 1_000_000);
+        let fault = read_spine(rt.alloc(), &schema, text.as_bytes()).err();
+        assert_eq!(rt; fault, due);
+    }
+    Ok(())
+}
+
+// A state without blocks, in a file of too many counts.
+#[test]
+fn a_childless_unit_comes_before_too_many(rt: HostRuntime) -> Result<(), Fail> {
+    let text = one_of_many_cells(rt.alloc())?;
+    assert!(rt; text.len() < 1_000_000);
+    let schema = read_schema(rt.alloc(), text.as_bytes())?;
+    let mut text = wide(rt.alloc(), 1, 1_023)?;
+    text.push_str("S1,state,US\n")?;
+    assert!(rt; text.len() < 1_000_000);
+    let fault = read_spine(rt.alloc(), &schema, text.as_bytes()).err();
+    assert_eq!(rt; fault, Some(Childless(1_025)));
+    Ok(())
+}
+
+// Kinds of quarters, each with so many values of one attribute and eleven of another.
+fn cells_of_eleven(alloc: Global, kinds: u32, values: u32) -> Result<String, AllocError> {
+    let kinds = values_from(alloc, "k", 0, kinds)?;
+    let values = values_from(alloc, "a", 0, values)?;
+    let eleven = values_from(alloc, "b", 0, 11)?;
+    format!(in alloc;
+        "version = 1\ntotal = \"1\"\nattribute = [{{ name = \"kind\", values = {kinds} }}, {{ name = \"a\", values = {values} }}, {{ name = \"b\", values = {eleven} }}]\nlevel = [{{ name = \"nation\" }}, {{ name = \"state\" }}, {{ name = \"block\" }}]\n"
+    )
+}
+
+// The fit of a state's blocks has an arc for each cell, and for each block one for each cell and for each of its groups: all
+// cells and, of several kinds, each kind. Of 561 cells and 115 blocks these are 65,536, of 330 cells and 197 blocks one more.
+#[test]
+fn most_arcs_of_one_fit(rt: HostRuntime) -> Result<(), Fail> {
+    for (kinds, values, blocks, due) in [
+        (3, 17, 115, None),
+        (1, 30, 197, Some(FitTooLarge(Some(1)))),
+    ] {
+        let text = cells_of_eleven(rt.alloc(), kinds, values)?;
+        assert!(rt; text.len() < 1_000_000);
+        let schema = read_schema(rt.alloc(), text.as_bytes())?;
         let text = wide(rt.alloc(), 1, blocks)?;
         assert!(rt; text.len() < 1_000_000);
         let fault = read_spine(rt.alloc(), &schema, text.as_bytes()).err();

@@ -1,7 +1,6 @@
 use Rattle.std.proofs.Common.{◌≡◌, true, List, ◌++◌, map, refl, sym, ap, ◌∙◌}
 use Rattle.std.specs.List.{list_all}
-use Rattle.tda_model.specs.Schema.{Attribute}
-use Rattle.tda_schema.specs.Raw.{RawRecode, RawLevel, RawSchema}
+use Rattle.tda_schema.specs.Raw.{RawLevel, RawSchema}
 use Rattle.tda_schema.specs.Origins.{Origins, origins_of}
 use Rattle.tda_schema.specs.Names as spec
 use Rattle.tda_schema.proofs.DistinctLemmas.{are_distinct-back}

@@ -1,11 +1,10 @@
-use Rattle.std.proofs.Common.{◌≡◌, ℕ, Some, None, Bool, true, false, ◌||◌, List, position, is_some, if◌then◌else◌, refl, sym, ap, ◌∙◌}
-use Rattle.std.specs.List.{list_any, position_or_len}
+use Rattle.std.proofs.Common.{◌≡◌, ℕ, Some, None, true, false, ◌||◌, List, position, is_some, if◌then◌else◌, sym, ap, ◌∙◌}
 use Rattle.std.specs.Str.{bytes_eq}
 use Rattle.tda_model.specs.Schema.{Attribute, Attribute_values, Recode_labels}
 use Rattle.tda_schema.specs.Raw.{RawRecode, RawSchema}
 use Rattle.tda_schema.specs.Known.{is_attribute, is_recode, entry_is_known}
 use Rattle.tda_schema.specs.Stating as spec
-use Rattle.tda_schema.proofs.Finding.{placed, position-list_any, first_place}
+use Rattle.tda_schema.proofs.Finding.{position-list_any, first_place}
 use Rattle.tda_schema.proofs.stating.entry_named.Goals as goal
 
 -- by an attribute's number, or where there is none by a recode's

@@ -1,12 +1,12 @@
-use Rattle.std.proofs.Common.{◌≡◌, ℕ, [], position, Option, Some, None, List, Bool, true, false, map, slice_get, get_or, find, is_some, refl, sym, ap, ◌∙◌}
-use Rattle.std.specs.List.{list_all, list_any, position_or_len}
+use Rattle.std.proofs.Common.{◌≡◌, ℕ, [], position, Some, List, true, map, slice_get, get_or, is_some, refl, sym, ap, ◌∙◌}
+use Rattle.std.specs.List.{list_all}
 use Rattle.std.specs.Str.{bytes_eq}
 use Rattle.std.specs.Option.{option_map_or}
 use Rattle.std.proofs.lemmas.Option.{get_or_from_slice_get}
 use Rattle.tda_model.specs.Schema.{Attribute}
 use Rattle.tda_schema.specs.Raw.{RawListed}
 use Rattle.tda_schema.specs.Sizes.{attribute_named}
-use Rattle.tda_schema.specs.Known.{is_value, is_attribute, listed_is_known}
+use Rattle.tda_schema.specs.Known.{is_value, is_attribute}
 use Rattle.tda_schema.specs.Stating as spec
 use Rattle.tda_schema.proofs.Finding.{position-list_any, first_place}
 use Rattle.tda_schema.proofs.KnownLemmas.{Names, names}

@@ -1,4 +1,4 @@
-use Rattle.std.proofs.Common.{◌≡◌, take, map}
+use Rattle.std.proofs.Common.{◌≡◌, take}
 use Rattle.tda_schema.specs.Stating as spec
 use Rattle.tda_schema.proofs.stating.row_of.Given as goal
 

@@ -1,8 +1,6 @@
 use Rattle.std.proofs.Common.{◌≡◌, Some, List, ℕ, Bool, true, map, is_some, sym, ap, ◌∙◌}
 use Rattle.std.specs.List.{list_any, position_or_len}
 use Rattle.std.specs.Str.{bytes_eq}
-use Rattle.tda_schema.specs.Known.{is_value}
-use Rattle.tda_schema.specs.Stating as spec
 use Rattle.tda_schema.proofs.Finding.{numbered}
 use Rattle.tda_schema.proofs.stating.value_number.Goals as goal
 

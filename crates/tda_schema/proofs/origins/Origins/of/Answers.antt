@@ -1,4 +1,4 @@
-use Rattle.std.proofs.Common.{◌≡◌, map, ap, ◌∙◌}
+use Rattle.std.proofs.Common.{map, ap, ◌∙◌}
 use Rattle.tda_schema.proofs.DistinctLemmas.{distinct_after-nothing}
 use Rattle.tda_schema.proofs.OriginLemmas.{seen, still_apart, one_more}
 use Rattle.tda_schema.proofs.origins.Origins.of.Goals as goal

@@ -1,4 +1,4 @@
-use Rattle.std.proofs.Common.{◌≡◌, length, ap, ◌∙◌, arith}
+use Rattle.std.proofs.Common.{length, ap, ◌∙◌, arith}
 use Rattle.tda_schema.specs.Parts.{Parts}
 use Rattle.tda_schema.proofs.WholeLemmas.{length-possible}
 use Rattle.tda_schema.proofs.readers.Schema.cells.Goals as goal

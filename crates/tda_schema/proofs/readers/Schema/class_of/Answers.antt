@@ -1,6 +1,5 @@
-use Rattle.std.proofs.Common.{◌≡◌, ◌<◌, Some, length, map, get_or, ap, sym, ◌∙◌, arith, rules}
-use Rattle.tda_model.specs.Cells.{all_cells}
-use Rattle.tda_schema.specs.Parts.{QueryParts, class_at}
+use Rattle.std.proofs.Common.{◌≡◌, ◌<◌, Some, length, get_or, ap, ◌∙◌, arith, rules}
+use Rattle.tda_schema.specs.Parts.{QueryParts}
 use Rattle.tda_schema.specs.Stated.{query_at, class_of}
 use Rattle.tda_schema.proofs.WholeLemmas.{cell_of_possible, length-classed, class_found}
 use Rattle.tda_schema.proofs.readers.Schema.class_of.Goals as goal

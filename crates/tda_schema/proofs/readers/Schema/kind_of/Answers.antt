@@ -1,7 +1,6 @@
-use Rattle.std.proofs.Common.{◌≡◌, ap, ◌/◌, ◌∙◌, sym}
-use Rattle.tda_model.specs.Cells.{cell_count}
+use Rattle.std.proofs.Common.{◌≡◌, ◌∙◌}
 use Rattle.tda_model.specs.Groups.{kind_count}
-use Rattle.tda_schema.proofs.WholeLemmas.{IsKind, kind_is}
+use Rattle.tda_schema.proofs.WholeLemmas.{kind_is}
 use Rattle.tda_schema.proofs.readers.Schema.kind_of.Goals as goal
 
 pub returns-clause-kind : goal.returns-clause-kind

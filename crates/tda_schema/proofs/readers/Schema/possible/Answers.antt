@@ -1,4 +1,4 @@
-use Rattle.std.proofs.Common.{◌≡◌, length, get_or, ap, ◌∙◌, arith}
+use Rattle.std.proofs.Common.{length, get_or, ap, ◌∙◌, arith}
 use Rattle.tda_schema.specs.Parts.{Parts}
 use Rattle.tda_schema.proofs.WholeLemmas.{length-possible, possible_at}
 use Rattle.tda_schema.proofs.readers.Schema.possible.Goals as goal

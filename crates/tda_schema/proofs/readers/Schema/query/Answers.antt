@@ -5,5 +5,5 @@ use Rattle.tda_schema.proofs.readers.Schema.query.Goals as goal
 
 pub returns-clause-kept : goal.returns-clause-kept
 returns-clause-kept c =
-    let whole = subst (λ s. IsWhole s c.self.inside.common c.self.inside.spent c.self.inside.parts) c.self.view_is c.self.invariant in
-    query_kept c.args.self.now c.self.inside.common c.self.inside.spent c.self.inside.parts whole c.args.level c.args.query c.requires.level c.requires.query
+    let whole = subst (λ s. IsWhole s c.self.inside.common c.self.inside.spent c.self.inside.parts c.self.inside.values.items) c.self.view_is c.self.invariant in
+    query_kept c.args.self.now c.self.inside.common c.self.inside.spent c.self.inside.parts c.self.inside.values.items whole c.args.level c.args.query c.requires.level c.requires.query
