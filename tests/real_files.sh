@@ -113,6 +113,19 @@ try "records that aren't" 3 "refused records BadHeader 1" measure "$data/spine.c
 try "nothing of them was begun" 1 - test -e "$folder/new.csv"
 try "measurements in a folder that isn't there" 5 - seeded 0 "$folder/none/measurements.csv"
 
+# One byte more than 2^28, and 2^28 itself, of a sparse file.
+if truncate -s 268435457 "$folder/large" 2>/dev/null && truncate -s 268435456 "$folder/most" 2>/dev/null; then
+  try "a schema that is too long" 3 "refused schema TooLong" fit "$folder/large" "$data/spine.csv" "$data/facilities.csv" "$data/totals.csv" "$folder/new.csv"
+  try "a schema of the most bytes" 3 "refused schema BadToml" fit "$folder/most" "$data/spine.csv" "$data/facilities.csv" "$data/totals.csv" "$folder/new.csv"
+  try "a spine that is too long" 3 "refused spine TooLong" fit "$data/schema.toml" "$folder/large" "$data/facilities.csv" "$data/totals.csv" "$folder/new.csv"
+  try "facilities that are too long" 3 "refused facilities TooLong" fit "$data/schema.toml" "$data/spine.csv" "$folder/large" "$data/totals.csv" "$folder/new.csv"
+  try "totals that are too long" 3 "refused totals TooLong" fit "$data/schema.toml" "$data/spine.csv" "$data/facilities.csv" "$folder/large" "$folder/new.csv"
+  try "records that are too long" 3 "refused records TooLong" measure "$folder/large" "$folder/empty" "$folder/new.csv"
+  try "words that are too long" 3 "refused words TooLong" measure "$data/records.csv" "$folder/large" "$folder/new.csv"
+else
+  skip "files that are too long (a file of 2^28 bytes can't be made)"
+fi
+
 cp "$data/schema.toml" "$folder/closed" && chmod 000 "$folder/closed"
 if cat "$folder/closed" >/dev/null 2>&1; then
   skip "a file without read permission (this user may read any file)"

@@ -1,10 +1,8 @@
 -- What a caller of a tree's readers shows.
-use Rattle.std.proofs.Common.{◌≡◌, ℕ, ◌<◌, Bool, true, List, [], length, Contains, Option, Some, None, IsSome, IsSomeAnd, slice_get, refl, sym, ap, ◌∙◌, subst, arith}
-use Rattle.std.proofs.lemmas.Bool.{and_parts, ltb-true}
+use Rattle.std.proofs.Common.{◌≡◌, ℕ, ◌<◌, true, List, [], Contains, Option, Some, None, IsSome, IsSomeAnd, slice_get, refl, sym, subst}
 use Rattle.std.proofs.lemmas.Option.{same_Some, slice_get_within, get_or_from_slice_get}
-use Rattle.std.specs.List.{list_all}
 use Rattle.tda_model.specs.Schema.{Query, Level, Schema}
-use Rattle.tda_model.specs.Cells.{cell_count, is_possible, is_listed}
+use Rattle.tda_model.specs.Cells.{cell_count, is_possible}
 use Rattle.tda_model.specs.Groups.{kind_count, kind_cells, classes_of, class_cells}
 use Rattle.tda_sets.proofs.Members.{Contains-passing}
 use Rattle.tda_groups.specs.Order.{group_at}

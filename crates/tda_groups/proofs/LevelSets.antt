@@ -1,9 +1,9 @@
 -- The groups of a level: the sets that are gathered, with a cell, each once and in order.
-use Rattle.std.proofs.Common.{◌≡◌, ◌↔◌, ◌==◌, ℕ, zero, suc, ◌+◌, ◌<◌, ◌≤◌, Bool, true, false, List, [], ◌∷◌, ◌++◌, length, get_or, map, filter, All, Contains, Option, Some, None, refl, sym, ap, ◌∙◌, subst, arith, inl, inr}
+use Rattle.std.proofs.Common.{◌≡◌, ◌↔◌, ◌==◌, ℕ, suc, ◌+◌, ◌<◌, ◌≤◌, false, List, [], ◌∷◌, length, get_or, map, All, Contains, Option, Some, None, sym, ap, ◌∙◌, subst, arith, inl, inr}
 use Rattle.std.specs.List.{AllPairs, range_with_len, flat_map}
 use Rattle.std.specs.List.Sorted.{IsStrictlyIncreasing}
 use Rattle.std.specs.Str.{bytes_eq}
-use Rattle.std.proofs.lemmas.Bool.{cases_lt, cases_eq, lt-ltb, and_from, eqb-true, eq-eqb, false_from_ne_true}
+use Rattle.std.proofs.lemmas.Bool.{cases_lt, cases_eq, eq-eqb, false_from_ne_true}
 use Rattle.std.proofs.lemmas.List.{get_or_default}
 use Rattle.std.proofs.lemmas.List.Elements.{All-contains, Contains-get_or, Contains-append_left, Contains-append_right, Contains-append_cases, recursion_from_All}
 use Rattle.std.proofs.lemmas.List.FromFn.{length-range_with_len, get_or-range_with_len}
@@ -12,13 +12,13 @@ use Rattle.std.proofs.lemmas.Option.{slice_get-get_or}
 use Rattle.std.proofs.lemmas.Slice.Eq.{bytes_eq-Decides}
 use Rattle.tda_model.specs.Schema.{Query, Level, Schema}
 use Rattle.tda_model.specs.Cells.{cell_count, is_possible, kind_of, all_cells, possible_cells}
-use Rattle.tda_model.specs.Groups.{class_cells, classes_of, kind_cells, kind_count, group_sets, each_once, group_count, AreNested, LevelIsNested}
+use Rattle.tda_model.specs.Groups.{class_cells, classes_of, kind_cells, kind_count, group_sets, group_count, LevelIsNested}
 use Rattle.tda_model.specs.Bounds.{HasKinds}
 use Rattle.tda_model.specs.Sizes.{groups_at}
 use Rattle.tda_schema.specs.Stated.{level_at}
 use Rattle.tda_sets.specs.Nested.{AreAllNested}
 use Rattle.tda_sets.proofs.AllNested.{AreAllNested-from, nested_pair}
-use Rattle.tda_sets.proofs.Members.{Contains-here, Contains-later, Contains-cases, Contains-passing, Contains-filter, Contains-unfiltered, passing_below, Contains-range, All-from_Contains, map_source, Contains-flat_map, flat_map_source}
+use Rattle.tda_sets.proofs.Members.{Contains-here, Contains-later, Contains-cases, Contains-passing, Contains-filter, Contains-unfiltered, passing_below, All-from_Contains, map_source, Contains-flat_map, flat_map_source}
 use Rattle.tda_sets.proofs.Once.{AreDistinct, each_once-distinct, length-each_once-same}
 use Rattle.tda_groups.specs.Sources.{named_cells, kind_sets, class_sets, source_sets}
 use Rattle.tda_groups.specs.Order.{IsWithin, first_cell, ComesBefore, IsCellSet, group_at, AreGroups}

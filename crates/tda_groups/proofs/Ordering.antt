@@ -1,5 +1,5 @@
 -- The order of groups: nested sets with one first cell and as many cells are one set.
-use Rattle.std.proofs.Common.{◌≡◌, ℕ, Bool, true, false, Ordering, cond, ◌+◌, ◌<◌, ◌≤◌, List, [], length, get_or, All, Contains, refl, sym, ap, ◌∙◌, subst, arith, inl, inr}
+use Rattle.std.proofs.Common.{◌≡◌, ℕ, false, Ordering, ◌<◌, ◌≤◌, List, length, Contains, refl, sym, ap, ◌∙◌, subst, arith, inl, inr}
 use Rattle.std.proofs.lemmas.List.Elements.{All-contains, Contains-get_or}
 use Rattle.std.specs.Ordering.{nat_cmp, is_lt, ordering_then}
 use Rattle.std.proofs.lemmas.Bool.{cases_lt, cases_order, lt-ltb, le-ltb, eq-eqb, true≢false}

@@ -1,5 +1,5 @@
 -- The number of a set among groups: there is one where the set is a group, and none where it has no cell.
-use Rattle.std.proofs.Common.{◌≡◌, ℕ, ◌+◌, ◌<◌, ◌≤◌, Bool, true, false, cond, List, [], length, get_or, Contains, Option, Some, None, IsSomeAnd, slice_get, nat_lt, refl, sym, ap, ◌∙◌, subst, arith, inl, inr}
+use Rattle.std.proofs.Common.{◌≡◌, ℕ, ◌<◌, false, cond, List, [], length, Contains, Some, None, IsSomeAnd, slice_get, nat_lt, sym, ap, ◌∙◌, subst, arith}
 use Rattle.std.specs.List.{position_or_len}
 use Rattle.std.specs.Str.{bytes_eq}
 use Rattle.std.proofs.lemmas.Bool.{lt-ltb, le-ltb, false_from_ne_true}
@@ -7,7 +7,7 @@ use Rattle.std.proofs.lemmas.List.{get_or_default}
 use Rattle.std.proofs.lemmas.List.Sums.{position_or_len_is}
 use Rattle.std.proofs.lemmas.Option.{slice_get-get_or}
 use Rattle.std.proofs.lemmas.Slice.Eq.{bytes_eq-Decides}
-use Rattle.tda_groups.specs.Order.{IsCellSet, group_at, AreGroups}
+use Rattle.tda_groups.specs.Order.{group_at, AreGroups}
 use Rattle.tda_groups.specs.Tree.{place_in}
 use Rattle.tda_groups.proofs.Chained.{set_at, same_group}
 

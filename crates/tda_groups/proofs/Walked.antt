@@ -1,5 +1,5 @@
 -- The walk over groups in order: each group's next is the last one before it that has its first cell.
-use Rattle.std.proofs.Common.{◌≡◌, ℕ, suc, ◌+◌, ◌<◌, ◌≤◌, ◌^◌, Bool, cond, List, [], ◌∷◌, ◌++◌, length, get_or, map, replicate, All, Contains, Option, Some, None, MatchOption, refl, sym, ap, ◌∙◌, subst, arith, add-one}
+use Rattle.std.proofs.Common.{◌≡◌, ℕ, ◌+◌, ◌<◌, ◌^◌, cond, List, [], ◌∷◌, ◌++◌, length, get_or, map, replicate, All, Contains, Option, Some, None, MatchOption, refl, sym, ap, ◌∙◌, subst, arith, add-one}
 use Rattle.std.specs.List.{range_with_len}
 use Rattle.std.proofs.lemmas.List.{get_or_read, get_or-replicate, length-replicate}
 use Rattle.std.proofs.lemmas.List.Elements.{All-contains}
@@ -7,7 +7,7 @@ use Rattle.std.proofs.lemmas.List.FromFn.{length-map-range_with_len, get_or-map-
 use Rattle.tda_schema.specs.Parts.{holds}
 use Rattle.tda_sets.proofs.Ranges.{map_range_push}
 use Rattle.tda_groups.specs.Order.{first_cell, group_at, AreGroups, IsNext, IsSmallest, AreLinked}
-use Rattle.tda_groups.proofs.Ordering.{has_first, within_tells}
+use Rattle.tda_groups.proofs.Ordering.{has_first}
 use Rattle.tda_groups.proofs.Chained.{last_below, has_cell, set_at, smallest_is, next_is}
 
 abbrev pub next_of : List (List ℕ) → ℕ → Option ℕ

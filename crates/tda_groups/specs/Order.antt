@@ -1,5 +1,5 @@
 -- The order of a level's groups, and what holds of groups that are nested and stand in it.
-use Rattle.std.specs.Prelude.{ℕ, ◌≡◌, ◌<◌, ◌≤◌, ◌⊎◌, ◌^◌, ◌==◌, Bool, not, List, [], length, slice_index, slice_index_or, All, Contains, Option, Some, None, MatchOption}
+use Rattle.std.specs.Prelude.{ℕ, ◌≡◌, ◌<◌, ◌≤◌, ◌⊎◌, ◌^◌, ◌==◌, Bool, not, List, [], length, slice_index, slice_index_or, All, Contains, Option, None, MatchOption}
 use Rattle.std.specs.List.{AllPairs}
 use Rattle.std.specs.List.Sorted.{IsStrictlyIncreasing}
 use Rattle.tda_model.specs.Groups.{AreNested}

@@ -1,5 +1,5 @@
 -- The sets of a level as they are gathered: by kind, and by the cell that names a class.
-use Rattle.std.specs.Prelude.{ℕ, List, [], ◌∷◌, ◌++◌, ◌==◌, map, filter}
+use Rattle.std.specs.Prelude.{ℕ, List, ◌∷◌, ◌++◌, ◌==◌, map, filter}
 use Rattle.std.specs.List.{flat_map, range_with_len}
 use Rattle.tda_model.specs.Schema.{Query, Level, Schema}
 use Rattle.tda_model.specs.Cells.{all_cells, possible_cells}

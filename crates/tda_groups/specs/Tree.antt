@@ -1,10 +1,9 @@
 -- The tree of a level's groups as a value, and what it says of a schema.
-use Rattle.std.specs.Prelude.{ℕ, ◌≡◌, ◌↔◌, ◌<◌, List, [], length, map, Contains, Option, Some, None, position, slice_get, slice_index_or, IsSomeAnd}
+use Rattle.std.specs.Prelude.{ℕ, ◌≡◌, ◌↔◌, ◌<◌, List, [], length, Contains, Option, Some, None, position, slice_get, slice_index_or, IsSomeAnd}
 use Rattle.std.specs.Str.{bytes_eq}
 use Rattle.tda_model.specs.Schema.{Query, Level, Schema}
 use Rattle.tda_model.specs.Cells.{possible_cells}
 use Rattle.tda_model.specs.Groups.{kind_cells, kind_count, class_cells, classes_of, group_count, IsGroup}
-use Rattle.tda_groups.specs.Sources.{kind_sets, class_sets}
 use Rattle.tda_groups.specs.Order.{AreGroups, group_at}
 
 -- the groups in order, the group of each kind, and of each query and cell the group of the class that the cell names
@@ -34,8 +33,6 @@ pub record IsTreeOf (s : Schema) (l : Level) (t : Tree) : Type 0 where
   pub exact : (xs : List ℕ) → Contains t.groups xs ↔ IsGroup s l xs
   pub count : length t.groups ≡ group_count s l
   pub whole : group_at t.groups 0 ≡ possible_cells s
-  pub kinds : t.kinds ≡ map (place_in t.groups) (kind_sets s)
-  pub classes : t.classes ≡ map (λ q. map (place_in t.groups) (class_sets s q)) l.queries
   pub each_kind : (kind : ℕ) → kind < kind_count s → IsSomeAnd (kind_at t kind) (λ g. slice_get t.groups g ≡ Some (kind_cells s kind))
   pub each_class : (query class : ℕ) (q : Query) → slice_get l.queries query ≡ Some q → Contains (classes_of s q) class
       → IsSomeAnd (class_at t query class) (λ g. slice_get t.groups g ≡ Some (class_cells s q class))

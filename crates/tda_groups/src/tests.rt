@@ -105,13 +105,18 @@ fn smallest_groups_of_cells(rt: HostRuntime) -> Result<(), Fail> {
     Ok(())
 }
 
+// The kinds, of which the last is one class, so that both have one group.
 #[test]
 fn groups_of_kinds(rt: HostRuntime) -> Result<(), Fail> {
     let schema = read_schema(rt.alloc(), PRISON.as_bytes())?;
     assert!(rt; 1 < schema.levels() && schema.kinds() == 3);
     let tree = tree(rt.alloc(), &schema, 1)?;
-    let found = (of_kind(&schema, &tree, 1, 0), of_kind(&schema, &tree, 1, 1));
-    assert_eq!(rt; found, (1, 4));
+    let found = (
+        of_kind(&schema, &tree, 1, 0),
+        of_kind(&schema, &tree, 1, 1),
+        of_kind(&schema, &tree, 1, 2),
+    );
+    assert_eq!(rt; found, (1, 4, 7));
     Ok(())
 }
 
@@ -125,12 +130,14 @@ fn groups_of_classes(rt: HostRuntime) -> Result<(), Fail> {
     let found = (
         of_class(&schema, &tree, 1, 0, 0),
         of_class(&schema, &tree, 1, 1, 3),
+        of_class(&schema, &tree, 1, 1, 4),
     );
-    assert_eq!(rt; found, (0, 6));
+    assert_eq!(rt; found, (0, 6, 7));
     Ok(())
 }
 
-const ONE_KIND: &str = "version = 1\ntotal = '1'\nattribute = [{ name = 'kind', values = ['house'] }, { name = 'sex', values = ['f', 'm'] }]\nlevel = [{ name = 'nation' }, { name = 'block' }]";
+const ONE_KIND: &str =
+    "version = 1\ntotal = '1'\nattribute = [{ name = 'kind', values = ['house'] }, { name = 'sex', values = ['f', 'm'] }]\nlevel = [{ name = 'nation' }, { name = 'block' }]";
 
 #[test]
 fn the_group_of_the_only_kind(rt: HostRuntime) -> Result<(), Fail> {

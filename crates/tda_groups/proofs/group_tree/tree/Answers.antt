@@ -1,11 +1,8 @@
-use Rattle.std.proofs.Common.{◌≡◌, ◌↔◌, ◌∙◌, ◌<◌, ◌≤◌, ℕ, List, [], length, map, All, Contains, ap, sym, subst, arith}
-use Rattle.std.specs.List.Sorted.{IsStrictlyIncreasing}
+use Rattle.std.proofs.Common.{◌≡◌, ◌↔◌, ◌∙◌, ◌≤◌, ℕ, List, length, map, Contains, ap, subst, arith}
 use Rattle.tda_model.specs.Schema.{Level, Schema}
-use Rattle.tda_model.specs.Cells.{cell_count}
 use Rattle.tda_model.specs.Groups.{group_count, IsGroup}
-use Rattle.tda_schema.specs.Stated.{level_at, queries_at}
-use Rattle.tda_sets.specs.Nested.{AreAllNested}
-use Rattle.tda_groups.specs.Sources.{source_sets, kind_sets, class_sets}
+use Rattle.tda_schema.specs.Stated.{level_at}
+use Rattle.tda_groups.specs.Sources.{source_sets, kind_sets}
 use Rattle.tda_groups.specs.Order.{AreGroups}
 use Rattle.tda_groups.specs.Tree.{Tree, place_in}
 use Rattle.tda_groups.proofs.LevelSets.{sources_rise, sources_nested, exact, count, whole_is, are_groups, cells_below, kinds_found, classes_found, groups_is}
@@ -105,8 +102,6 @@ returns c =
       exact = exact;
       count = ap length same ∙ counted d;
       whole = rw same (whole_is s l kinds over_all nested groups c.in_ok-groups.ensures.sets c.in_ok-groups.ensures.ordered (gathered d));
-      kinds = kind_places;
-      classes = c.in_ok-classes.ensures;
       each_kind = each_kind s l t in_order exact kind_places;
       each_class = each_class s l t in_order exact over_all c.in_ok-classes.ensures;
     }

@@ -1,4 +1,4 @@
-use Rattle.std.proofs.Common.{◌≡◌, ◌↔◌, ◌≤◌, ℕ, List, length, All, Contains, IfOk, arith}
+use Rattle.std.proofs.Common.{◌↔◌, ◌≤◌, ℕ, List, length, All, Contains}
 use Rattle.tda_sets.proofs.Members.{All-from_Contains}
 use Rattle.std.proofs.lemmas.List.Elements.{All-contains}
 use Rattle.std.proofs.lemmas.Result.{IfOk-weaker}

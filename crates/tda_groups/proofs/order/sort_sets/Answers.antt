@@ -1,4 +1,4 @@
-use Rattle.std.proofs.Common.{ℕ, ◌+◌, List, length, get_or, arith, rules}
+use Rattle.std.proofs.Common.{◌+◌, length, get_or, arith, rules}
 use Rattle.std.proofs.lemmas.List.Sorted.{answers_always}
 use Rattle.tda_groups.specs.Order.{first_cell}
 use Rattle.tda_groups.proofs.Ordering.{no_later}

@@ -1,4 +1,4 @@
-use Rattle.std.proofs.Common.{◌≡◌, ◌==◌, ◌∙◌, ◌<◌, ◌+◌, ap, sym, arith, length, map, filter}
+use Rattle.std.proofs.Common.{◌≡◌, ◌==◌, ◌∙◌, ap, sym, arith, length, map, filter}
 use Rattle.std.proofs.lemmas.List.FromFn.{length-map-range_with_len}
 use Rattle.tda_model.specs.Cells.{cell_count, is_possible, all_cells}
 use Rattle.tda_schema.specs.Stated.{query_at, class_of}

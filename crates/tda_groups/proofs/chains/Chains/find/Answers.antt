@@ -1,7 +1,7 @@
-use Rattle.std.proofs.Common.{◌≡◌, ◌∙◌, ◌<◌, ◌≤◌, ℕ, [], length, get_or, Contains, IsSome, MatchOption, Option, Some, None, subst, sym, ap, arith, rules}
+use Rattle.std.proofs.Common.{◌≡◌, ◌∙◌, ◌<◌, ◌≤◌, ℕ, [], length, IsSome, MatchOption, Option, Some, None, subst, sym, ap, arith, rules}
 use Rattle.std.proofs.lemmas.List.{get_or_read}
 use Rattle.std.proofs.lemmas.Option.{MatchOption-at_some}
-use Rattle.tda_groups.specs.Order.{group_at, AreGroups, IsWithin, IsNext}
+use Rattle.tda_groups.specs.Order.{group_at, AreGroups, IsNext}
 use Rattle.tda_groups.proofs.Chained.{first_in_whole, smallest_within, next_within, not_whole, found}
 use Rattle.tda_groups.proofs.chains.Chains.find.Goals as goal
 use Rattle.tda_groups.proofs.chains.Chains.find.Goals.{After-self, After-len}

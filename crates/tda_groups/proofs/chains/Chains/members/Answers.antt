@@ -1,4 +1,4 @@
-use Rattle.std.proofs.Common.{◌≡◌, ◌∙◌, ◌<◌, [], length, ap, sym, subst}
+use Rattle.std.proofs.Common.{◌∙◌, ◌<◌, [], length, sym, subst}
 use Rattle.std.proofs.lemmas.List.{get_or_read}
 use Rattle.tda_groups.specs.Order.{IsCellSet}
 use Rattle.tda_groups.proofs.chains.Chains.members.Goals as goal

@@ -1,8 +1,8 @@
-use Rattle.std.proofs.Common.{◌≡◌, ◌∙◌, ◌<◌, ◌≤◌, ℕ, [], None, Some, length, get_or, cond, ap, sym, subst, arith, rules}
+use Rattle.std.proofs.Common.{◌≡◌, ◌∙◌, ◌<◌, [], None, Some, length, get_or, cond, ap, subst, arith, rules}
 use Rattle.std.proofs.lemmas.List.{with_items_is, get_or_read}
 use Rattle.tda_schema.specs.Parts.{holds}
 use Rattle.tda_groups.specs.Order.{group_at}
-use Rattle.tda_groups.proofs.Walked.{IsWalked, walked_none, walked_more, walked_all, first_below}
+use Rattle.tda_groups.proofs.Walked.{IsWalked, walked_none, walked_more, walked_all}
 use Rattle.tda_groups.proofs.chains.Chains.new.Goals as goal
 
 pub loop-number-init : goal.loop-number-init

@@ -1,4 +1,4 @@
-use Rattle.std.proofs.Common.{◌≡◌, ◌∙◌, ◌<◌, length, get_or, Contains, Some, None, subst, sym, arith}
+use Rattle.std.proofs.Common.{◌∙◌, Contains, None, subst, sym, arith}
 use Rattle.std.proofs.lemmas.List.{get_or_read}
 use Rattle.std.proofs.lemmas.Option.{MatchOption-at_some}
 use Rattle.tda_groups.specs.Order.{group_at, IsSmallest}
