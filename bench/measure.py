@@ -2,10 +2,11 @@
 """Runs `tda measure` on records files of growing size, and then on spines of growing size with few records.
 
 Without queries a run reads and counts the records: prints for each number of records the seconds above those of a file
-without records, the ratio to the former size, which is at most 4.6 for four times as many, and the peak memory, beside the
-bytes of the file and 8 for each record.  With queries a run draws a number at each place: prints for each number of
-places the seconds above those of the same files without queries, the places of one second, the ratio, which is at most 4.6
-too, and the peak memory, beside 8 bytes for each count and place and the bytes of the written measurements.
+without records, the ratio to the former size, which is at most 4.6 for four times as many, and the bytes of peak memory that
+each further record takes, which are at most its bytes in the file and 16 (8 for a record, in a vector that doubles).  With
+queries a run draws a number at each place: prints for each number of places the seconds above those of the same files without
+queries, the places of one second, the ratio, which is at most 4.6 too, and the bytes of peak memory of each further unit, beside
+8 for each count and place and those of its rows in the spine and the measurements: the rest, the unit in the tree, is at most 320.
 Usage: bench/measure.py [PROGRAM]   (made by ./tda: crates/tda/out/tda)
 """
 import argparse
@@ -28,6 +29,9 @@ MANY_STATES, BLOCKS_OF_STATES = 200, [40, 160, 640]
 FEW_RECORDS = 1_000
 ROUNDS = 7
 MOST_RATIO = 4.6
+# What a record takes beside its row, and a unit beside its counts, places and rows.
+MOST_OF_RECORD = 16
+MOST_OF_UNIT = 320
 
 
 def write_rest(folder):
@@ -57,30 +61,36 @@ def judged(seconds, former):
     return f"{seconds / former:.2f}", seconds / former <= MOST_RATIO
 
 
+def each(now, former):
+    """The bytes of peak memory, and those of the files, that each further one takes: of (how many, peak, bytes)."""
+    return [(new - old) / (now[0] - former[0]) for new, old in zip(now[1:], former[1:])]
+
+
 def print_records(program, folder):
     """Prints what reading and counting takes, and whether all ratios are within the limit."""
     write_schema(folder, ONE_CELL)
     write_spine(folder, STATES, BLOCKS)
     write_records(folder, ONE_CELL, STATES, BLOCKS, 0)
     least, _ = measure(program, folder, 0)
-    print(f"{'records':>9} {'seconds':>8} {'ratio':>6} {'peak MB':>8} {'file':>6} {'8 each':>7}")
-    former, good = None, True
+    print(f"{'records':>9} {'seconds':>8} {'ratio':>6} {'peak MB':>8} {'bytes each':>10} {'in file':>7}")
+    former, taken, good = None, None, True
     for count in RECORDS:
         size = write_records(folder, ONE_CELL, STATES, BLOCKS, count)
         seconds, peak = measure(program, folder, 0)
         ratio, within = judged(seconds - least, former)
-        former, good = seconds - least, good and within
+        bytes_each, file_each = each((count, peak, size), taken) if taken else (0, size / count)
+        former, taken, good = seconds - least, (count, peak, size), good and within
+        good = good and bytes_each <= file_each + MOST_OF_RECORD
         print(
-            f"{count:>9} {seconds - least:>8.3f} {ratio:>6} {peak / 1e6:>8.1f} {size / 1e6:>6.1f}"
-            f" {8 * count / 1e6:>7.1f}"
+            f"{count:>9} {seconds - least:>8.3f} {ratio:>6} {peak / 1e6:>8.1f} {bytes_each:>10.1f} {file_each:>7.1f}"
         )
     return good
 
 
 def print_places(program, folder):
     """Prints what drawing takes, and whether all ratios are within the limit."""
-    print(f"{'places':>9} {'seconds':>8} {'a second':>9} {'ratio':>6} {'peak MB':>8} {'8 each':>7} {'text':>6}")
-    former, good = None, True
+    print(f"{'places':>9} {'seconds':>8} {'a second':>9} {'ratio':>6} {'peak MB':>8} {'bytes a unit':>12} {'rest':>6}")
+    former, taken, good = None, None, True
     for blocks in BLOCKS_OF_STATES:
         units = write_spine(folder, MANY_STATES, blocks)
         write_records(folder, TWO_CELLS, MANY_STATES, blocks, FEW_RECORDS)
@@ -90,11 +100,13 @@ def print_places(program, folder):
         write_schema(folder, TWO_CELLS, QUERIES)
         seconds, peak = measure(program, folder, places)
         ratio, within = judged(seconds - least, former)
-        former, good = seconds - least, good and within
-        text = (folder / "measurements.csv").stat().st_size
+        size = sum((folder / f"{name}.csv").stat().st_size for name in ["spine", "measurements"])
+        bytes_each, file_each = each((units, peak, size), taken) if taken else (0, 0)
+        rest = bytes_each - file_each - 8 * (counts + places) / units if taken else 0
+        former, taken, good = seconds - least, (units, peak, size), good and within and rest <= MOST_OF_UNIT
         print(
             f"{places:>9} {seconds - least:>8.3f} {places / (seconds - least):>9.0f} {ratio:>6} {peak / 1e6:>8.1f}"
-            f" {8 * (counts + places) / 1e6:>7.1f} {text / 1e6:>6.1f}"
+            f" {bytes_each:>12.1f} {rest:>6.1f}"
         )
     return good
 

@@ -1,10 +1,11 @@
 #!/usr/bin/env python3
 """Times the reading of records, beside a loop over the same rows that does nothing but read them by the csv crate.
 
-Files of growing size are read by a program that is made, proved and built in a temporary folder outside the repository.
-Prints for each number of records the nanoseconds of one record, those of the csv crate's own loop, the ratio to the former
-size, which is at most 4.6 for four times as many, and the peak memory that a reading adds, beside the bytes of the file and
-8 for each record.  Usage: bench/records.py
+Files of growing size are read by a program that is made, proved and built in a temporary folder outside the repository: of
+one attribute with one value, and of three, one with 128 values.  Prints for each number of records the nanoseconds of one
+record, those of the csv crate's own loop, how many times those it takes, which is at most 2.5, the ratio to the former size,
+which is at most 4.6 for four times as many, and the peak memory that a reading adds, beside the bytes of the file and 8 for
+each record.  Usage: bench/records.py
 """
 import pathlib
 import sys
@@ -17,8 +18,12 @@ SIZES = [100_000, 400_000, 1_600_000]
 RECORDS_IN_ALL = 3_200_000
 ROUNDS = 9
 MOST_RATIO = 4.6
-STATES, BLOCKS = 100, 200
-ATTRIBUTES = {"kind": ["house"]}
+MOST_TIMES = 2.5
+# Attributes, and how many states there are with how many blocks each.
+CASES = [
+    ({"kind": ["house"]}, 100, 200),
+    ({"kind": ["house"], "age": [f"age{age}" for age in range(128)], "race": [f"r{race}" for race in range(8)]}, 60, 60),
+]
 
 PROGRAM = r'''
 //! Reads a file of records again and again, or only its rows by the csv crate.
@@ -144,27 +149,33 @@ def measured(program, folder, what, count, each):
     return (best[times][0] - best[0][0]) / times, best[times][1] - best[0][1]
 
 
+def print_case(program, folder, attributes, states, blocks):
+    """Prints what reading takes for each number of records, and whether all is within the limits."""
+    release.write_schema(folder, attributes)
+    release.write_spine(folder, states, blocks)
+    print(f"{'records':>9} {'ns each':>8} {'csv':>6} {'times':>6} {'ratio':>6} {'MB added':>9} {'file':>6} {'8 each':>7}")
+    former, good = None, True
+    for count in SIZES:
+        size = release.write_records(folder, attributes, states, blocks, count)
+        seconds, peak = measured(program, folder, "records", count, count)
+        rows, _ = measured(program, folder, "rows", count, count + 1)
+        ratio = "" if former is None else f"{seconds / former:.2f}"
+        good = good and (former is None or seconds / former <= MOST_RATIO) and seconds / rows <= MOST_TIMES
+        print(
+            f"{count:>9} {seconds / count * 1e9:>8.1f} {rows / count * 1e9:>6.1f} {seconds / rows:>6.2f} {ratio:>6}"
+            f" {peak / 1e6:>9.1f} {size / 1e6:>6.1f} {8 * count / 1e6:>7.1f}"
+        )
+        former = seconds
+    return good
+
+
 def main():
     with tempfile.TemporaryDirectory() as name:
         folder = pathlib.Path(name)
         uses = ["tda_records", "tda_spine", "tda_schema", "tda_io", "csv"]
         program = build(folder, "bench_records", uses, PROGRAM)
-        release.write_schema(folder, ATTRIBUTES)
-        release.write_spine(folder, STATES, BLOCKS)
-        print(f"{'records':>9} {'ns each':>8} {'csv':>6} {'ratio':>6} {'MB added':>9} {'file':>6} {'8 each':>7}")
-        former, good = None, True
-        for count in SIZES:
-            size = release.write_records(folder, ATTRIBUTES, STATES, BLOCKS, count)
-            seconds, peak = measured(program, folder, "records", count, count)
-            rows, _ = measured(program, folder, "rows", count, count + 1)
-            ratio = "" if former is None else f"{seconds / former:.2f}"
-            good = good and (former is None or seconds / former <= MOST_RATIO)
-            print(
-                f"{count:>9} {seconds / count * 1e9:>8.1f} {rows / count * 1e9:>6.1f} {ratio:>6}"
-                f" {peak / 1e6:>9.1f} {size / 1e6:>6.1f} {8 * count / 1e6:>7.1f}"
-            )
-            former = seconds
-        sys.exit(0 if good else 1)
+        good = [print_case(program, folder, *case) for case in CASES]
+        sys.exit(0 if all(good) else 1)
 
 
 if __name__ == "__main__":
