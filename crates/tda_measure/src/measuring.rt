@@ -155,7 +155,8 @@ pub fn measure<W: Words>(
     // The units are a tree.
     let _ = spine.units();
     let mut sums = vec![in alloc; 0; schema.cells() as usize]?;
-    let mut numbers = Vec::new(alloc);
+    let places = tda_places::count(schema, spine);
+    let mut numbers = Vec::with_capacity(alloc, places as usize)?;
     for level in 0..schema.levels() {
         measure_level(schema, spine, tables, level, &mut sums, &mut numbers, w)?;
     }

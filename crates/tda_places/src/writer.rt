@@ -89,7 +89,7 @@ fn name_all_queries(schema: &Schema)
 }
 
 /// Appends the file of measurements, with the header `unit,query,class,value` and a row for each place in the order of the
-/// places, at most 67 bytes a row and 2^30 bytes in all.
+/// places, at most 67 bytes a row, and 2^30 bytes in all where the spine was read with the schema.
 ///
 /// `read_measurements` accepts what is written, and gives the measurements back. After `NoMemory` nothing was appended.
 pub fn write_measurements(
