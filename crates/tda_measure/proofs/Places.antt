@@ -12,6 +12,7 @@ use Rattle.tda_out.specs.Counts.{Counts, count_at, AreCountsOf}
 use Rattle.tda_places.specs.Measurements.{IsWithinLimit, AreMeasurementsOf}
 use Rattle.tda_places.specs.Places.{place, query_places, query_numbers, unit_places, level_places, level_numbers, places_of}
 use Rattle.tda_places.specs.declared.place.Place.{Place}
+use Rattle.tda_schema.specs.Kept.{AreQueriesKept}
 use Rattle.tda_schema.specs.Stated.{queries_at, query_at}
 use Rattle.tda_measure.specs.Measured.{sum_at, noisy, AreMeasured, HaveFewPersons}
 use Rattle.tda_measure.specs.Noise.{variance_at, variances_of, AreDrawn, NoiseStops}
@@ -37,12 +38,12 @@ module _ (s : Schema) (sp : Spine) where
   each_of_level P level holds = each_filter P (is_at sp level) (unit_numbers sp) (each_any _ (unit_numbers sp) (λ u at. holds u (eqb-true (level_of sp u) level at)))
 
   -- the variances of queries with shares
-  module _ (paid : (level query : ℕ) → level < length s.levels → query < length (queries_at s level) → 1 ≤ (query_at s level query).share.num) where
+  module _ (kept : AreQueriesKept s) where
     IsPaid : Place → Type 0
     IsPaid p = IsVariance (variance_at s sp p)
 
     paid_at : (level unit query : ℕ) → level < length s.levels → query < length (queries_at s level) → level_of sp unit ≡ level → (c : ℕ) → IsVariance (variance_at s sp (place unit query c))
-    paid_at level unit query within inside at c = subst (λ l. 1 ≤ (query_at s l query).share.num) (sym at) (paid level query within inside)
+    paid_at level unit query within inside at c = subst (λ l. 1 ≤ (query_at s l query).share.num) (sym at) (kept level query within inside).share.some
 
     pub variances_positive : Each IsVariance (variances_of s sp)
     variances_positive =
