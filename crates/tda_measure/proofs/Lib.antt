@@ -1,3 +1,4 @@
+pub mod Lists
 pub mod Walking
 pub mod Outcomes
 pub mod ClassSums

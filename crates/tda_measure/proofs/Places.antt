@@ -1,9 +1,7 @@
 -- The steps of all places, and what their measurements come to.
-use Rattle.std.proofs.Common.{◌≡◌, ℕ, ◌<◌, ◌≤◌, ℤ, pos, ◌+ℤ◌, List, [], ◌∷◌, ◌++◌, length, map, get_or, All, refl, sym, ap, ◌∙◌, subst, arith, suc}
+use Rattle.std.proofs.Common.{◌≡◌, ℕ, ◌<◌, ◌≤◌, ℤ, pos, ◌+ℤ◌, List, [], ◌∷◌, length, map, get_or, All, refl, sym, ap, ◌∙◌, subst, arith, suc}
 use Rattle.std.proofs.lemmas.Bool.{eqb-true}
-use Rattle.std.proofs.lemmas.List.{map-append}
 use Rattle.std.proofs.lemmas.List.Elements.{All-get_or, All-from_recursion}
-use Rattle.std.specs.List.{flat_map}
 use Rattle.tda_model.specs.Schema.{Schema}
 use Rattle.tda_model.specs.Cells.{cell_count}
 use Rattle.tda_model.specs.Groups.{classes_of}
@@ -14,32 +12,14 @@ use Rattle.tda_out.specs.Counts.{Counts, count_at, AreCountsOf}
 use Rattle.tda_places.specs.Measurements.{IsWithinLimit, AreMeasurementsOf}
 use Rattle.tda_places.specs.Places.{place, query_places, query_numbers, unit_places, level_places, level_numbers, places_of}
 use Rattle.tda_places.specs.declared.place.Place.{Place}
+use Rattle.tda_schema.specs.Kept.{AreQueriesKept}
 use Rattle.tda_schema.specs.Stated.{queries_at, query_at}
 use Rattle.tda_measure.specs.Measured.{sum_at, noisy, AreMeasured, HaveFewPersons}
 use Rattle.tda_measure.specs.Noise.{variance_at, variances_of, AreDrawn, NoiseStops}
 use Rattle.tda_measure.specs.Steps.{Step, variances, query_steps, unit_steps, level_steps, all_steps, AreTaken, Adds, Stops, HasCounts}
 use Rattle.tda_measure.specs.declared.stop.MeasureStop.{MeasureStop}
+use Rattle.tda_measure.proofs.Lists.{each_flat, each_map, map_flat, map_twice}
 use Rattle.tda_measure.proofs.Outcomes.{IsVariance}
-
-map_flat : {X A B : Type 0} (g : A → B) (f : X → List A) (h : X → List B) (xs : List X) → Each (λ x. map g (f x) ≡ h x) xs → map g (flat_map f xs) ≡ flat_map h xs
-map_flat g f h [] e = refl
-map_flat g f h (x ∷ xs) (here, later) = map-append g (f x) (flat_map f xs) ∙ ap (λ ys. ys ++ map g (flat_map f xs)) here ∙ ap (λ ys. h x ++ ys) (map_flat g f h xs later)
-
-map_twice : {X A B : Type 0} (g : A → B) (f : X → A) (xs : List X) → map g (map f xs) ≡ map (λ x. g (f x)) xs
-map_twice g f [] = refl
-map_twice g f (x ∷ xs) = ap (λ ys. g (f x) ∷ ys) (map_twice g f xs)
-
-each_append : {X : Type 0} (P : X → Type 0) (xs ys : List X) → Each P xs → Each P ys → Each P (xs ++ ys)
-each_append P [] ys h k = k
-each_append P (x ∷ xs) ys (here, later) k = (here, each_append P xs ys later k)
-
-each_flat : {X A : Type 0} (P : A → Type 0) (f : X → List A) (xs : List X) → Each (λ x. Each P (f x)) xs → Each P (flat_map f xs)
-each_flat P f [] h = tt
-each_flat P f (x ∷ xs) (here, later) = each_append P (f x) (flat_map f xs) here (each_flat P f xs later)
-
-each_map : {X A : Type 0} (P : A → Type 0) (f : X → A) (xs : List X) → Each (λ x. P (f x)) xs → Each P (map f xs)
-each_map P f [] h = tt
-each_map P f (x ∷ xs) (here, later) = (here, each_map P f xs later)
 
 pub all_units : (sp : Spine) (level : ℕ) → All (IsUnit sp) (units_at sp level)
 all_units sp level =
@@ -58,12 +38,12 @@ module _ (s : Schema) (sp : Spine) where
   each_of_level P level holds = each_filter P (is_at sp level) (unit_numbers sp) (each_any _ (unit_numbers sp) (λ u at. holds u (eqb-true (level_of sp u) level at)))
 
   -- the variances of queries with shares
-  module _ (paid : (level query : ℕ) → level < length s.levels → query < length (queries_at s level) → 1 ≤ (query_at s level query).share.num) where
+  module _ (kept : AreQueriesKept s) where
     IsPaid : Place → Type 0
     IsPaid p = IsVariance (variance_at s sp p)
 
     paid_at : (level unit query : ℕ) → level < length s.levels → query < length (queries_at s level) → level_of sp unit ≡ level → (c : ℕ) → IsVariance (variance_at s sp (place unit query c))
-    paid_at level unit query within inside at c = subst (λ l. 1 ≤ (query_at s l query).share.num) (sym at) (paid level query within inside)
+    paid_at level unit query within inside at c = subst (λ l. 1 ≤ (query_at s l query).share.num) (sym at) (kept level query within inside).share.some
 
     pub variances_positive : Each IsVariance (variances_of s sp)
     variances_positive =

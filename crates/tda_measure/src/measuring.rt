@@ -13,7 +13,7 @@ ghost use Rattle.tda_measure.specs.Steps.{written_step, unit_steps, level_steps,
 ghost use Rattle.tda_measure.specs.declared.stop.MeasureStop.TheVariants as stop;
 
 use crate::MeasureStop;
-use crate::shares::{know_shares, variance_of};
+use crate::shares::variance_of;
 use crate::sums::write_sums;
 use std::alloc::Global;
 use tda_frac::Frac;
@@ -151,11 +151,12 @@ pub fn measure<W: Words>(
     ensures counts { CountsTaken (W.words w.old) (W.taken w.old) (W.words w.new) (W.taken w.new) }
     ensures one { IsDetermined (IsNoise (variances_of schema.now spine.now)) }
 {
-    know_shares(schema);
-    // The units are a tree.
+    // Each query has a share above 0, and the units are a tree.
+    let _ = schema.levels();
     let _ = spine.units();
     let mut sums = vec![in alloc; 0; schema.cells() as usize]?;
-    let mut numbers = Vec::new(alloc);
+    let places = tda_places::count(schema, spine);
+    let mut numbers = Vec::with_capacity(alloc, places as usize)?;
     for level in 0..schema.levels() {
         measure_level(schema, spine, tables, level, &mut sums, &mut numbers, w)?;
     }

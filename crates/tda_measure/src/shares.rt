@@ -1,5 +1,5 @@
 // The variances of the noise.
-ghost use Rattle.std.specs.Prelude.{◌≡◌, ◌<◌, ◌≤◌, ◌*◌, ◌^◌, ℕ, length};
+ghost use Rattle.std.specs.Prelude.{◌≡◌, ◌<◌, ◌≤◌, ◌^◌, length};
 ghost use Rattle.tda_frac.specs.Fraction.{reciprocal_of};
 ghost use Rattle.tda_schema.specs.Shares.{frac_of};
 ghost use Rattle.tda_schema.specs.Stated.{queries_at, query_at};
@@ -24,24 +24,5 @@ pub(crate) fn variance_of(schema: &Schema, level: usize, query: usize) -> Frac
     match share.flip() {
         Some(variance) => variance,
         None => unreachable!(),
-    }
-}
-
-// The queries of a level have shares above 0.
-fn know_level(schema: &Schema, level: usize)
-    requires { level < length schema.now.levels }
-    ensures { (query : ℕ) → query < length (queries_at schema.now level) → 1 ≤ (query_at schema.now level query).share.num }
-{
-    for query in 0..schema.queries(level) {
-        let _ = schema.share(level, query);
-    }
-}
-
-/// All queries have shares above 0.
-pub(crate) fn know_shares(schema: &Schema)
-    ensures { (level : ℕ) → level < length schema.now.levels → (query : ℕ) → query < length (queries_at schema.now level) → 1 ≤ (query_at schema.now level query).share.num }
-{
-    for level in 0..schema.levels() {
-        know_level(schema, level);
     }
 }

@@ -22,7 +22,8 @@ use Rattle.tda_model.specs.Cells.{all_cells, cell_count, is_listed, is_possible,
 use Rattle.tda_model.specs.Groups.{classes_of, is_class, scope_cells}
 use Rattle.tda_model.specs.Sizes.{place_count, places_limit}
 use Rattle.tda_model.specs.Spine.{Spine, code_of, level_of}
-use Rattle.tda_schema.specs.Stated.{queries_at, query_at}
+use Rattle.tda_schema.specs.Kept.{AreQueriesKept}
+use Rattle.tda_schema.specs.Stated.{query_at}
 use Rattle.tda_spine.specs.Sound.{IsSound}
 use Rattle.std.proofs.lemmas.List.FromFn.{length-range_with_len}
 use Rattle.tda_places.specs.Measurements.{file_fault, format, header, is_past, measurement_in, measurement_limit, measurement_named, measurement_row, measurements_text, number_of, place_fields, read, row_fault, within_limit, AreMeasurementsOf, IsWithinLimit}
@@ -40,10 +41,6 @@ use Rattle.tda_places.proofs.Spots.{is_one, nowhere, place_there, spot_from, uni
 
 abbrev Each : {X : Type 0} → (X → Type 0) → List X → Type 0
 Each P xs = AllByRecursion P xs
-
--- each query has a name
-abbrev pub AreNamed : Schema → Type 0
-AreNamed s = (level query : ℕ) → level < length s.levels → query < length (queries_at s level) → name_test 32 (query_at s level query).name ≡ true
 
 -- ---- numbers
 pub named_back : (z : ℤ) → IsWithinLimit z → measurement_named (signed_decimal z) ≡ Some z
@@ -140,7 +137,7 @@ module _ (s : Schema) (sp : Spine) (m : List ℤ) (are : AreMeasurementsOf s sp 
       ∙ ap (λ p. row_at (p, get_or m k (pos 0))) (place_there s sp k spot at)
       ∙ ap (λ fields. fields ++ signed_decimal (get_or m k (pos 0)) ∷ []) (fields_are s sp k spot at)
 
-  module _ (sound : IsSound sp) (named : AreNamed s) where
+  module _ (sound : IsSound sp) (kept : AreQueriesKept s) where
     writable : All (IsWritable s sp) (places_of s sp)
     writable k d below =
         let found = spot_from s sp k below in
@@ -151,7 +148,7 @@ module _ (s : Schema) (sp : Spine) (m : List ℤ) (are : AreMeasurementsOf s sp 
         let level = at.level in
         rw is (record {
           code = sound.coded (place_of s sp spot).unit one.unit;
-          query = rw (unit_is s sp spot.level spot.unit at.unit).1 (named spot.level spot.query level at.query);
+          query = rw (unit_is s sp spot.level spot.unit at.unit).1 (kept spot.level spot.query level at.query).named;
           class = All-contains (λ c. c < cell_count s) (classes_of s (query_at s (level_of sp (place_of s sp spot).unit) spot.query)) (place_of s sp spot).class (small_classes s (query_at s (level_of sp (place_of s sp spot).unit) spot.query)) one.class;
         })
 

@@ -9,7 +9,8 @@ use std::marker::Model;
 use tda_schema::Schema;
 use tda_spine::Spine;
 
-/// A whole number for each place, in the order of the places, each within 2^31 of 0. Eight bytes are kept for each.
+/// A whole number for each place, in the order of the places, each within 2^31 of 0. Eight bytes are kept for each, where
+/// they were read or measured.
 #[derive(Debug, Drop)]
 pub struct Measurements {
     numbers: Vec<i64>,

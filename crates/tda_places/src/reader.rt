@@ -13,11 +13,12 @@ use tda_io::RowReader;
 use tda_schema::Schema;
 use tda_spine::Spine;
 
-// The measurements of the rows after the header.
+// The measurements of the rows after the header, of a text of so many bytes.
 fn measurements_of(
     alloc: Global,
     schema: &Schema,
     spine: &Spine,
+    size: usize,
     rows: &mut RowReader,
 ) -> Result<Measurements, MeaFault>
     requires belong { spine.now.depth ≡ length schema.now.levels }
@@ -27,7 +28,9 @@ fn measurements_of(
     ensures measured { IfOk result (AreMeasurementsOf schema.now spine.now) }
 {
     let count = count(schema, spine);
-    let mut numbers = Vec::new(alloc);
+    // A row without a fault has at least 8 bytes: four fields, each with what ends it. The last one may lack its end.
+    let room = count.min(size as u64 / 8);
+    let mut numbers = Vec::with_capacity(alloc, room as usize)?;
     let mut last = None;
     while rows.next_row()? {
         match judge(schema, spine, numbers.len() as u64, count, last, rows) {
@@ -73,5 +76,5 @@ pub fn read_measurements(
         rows.finish()?;
         return Err(MeaFault::BadHeader(1));
     }
-    measurements_of(alloc, schema, spine, &mut rows)
+    measurements_of(alloc, schema, spine, bytes.len(), &mut rows)
 }

@@ -25,6 +25,10 @@ const NO_QUERY: &[u8] =
 const TWINS: &[u8] =
     b"version = 1\ntotal = \"1\"\n[[attribute]]\nname = \"kind\"\nvalues = [\"house\"]\n[[level]]\nname = \"nation\"\n[[level]]\nname = \"state\"\n[[level]]\nname = \"block\"\nquery = [{ name = \"total\", by = [], share = \"1/2\" }, { name = \"kind\", by = [\"kind\"], share = \"1/2\" }]\n";
 
+// A query of the nation and one of the blocks, and none of the states between them.
+const OUTER_LEVELS: &[u8] =
+    b"version = 1\ntotal = \"2\"\n[[attribute]]\nname = \"kind\"\nvalues = [\"house\"]\n[[level]]\nname = \"nation\"\nquery = [{ name = \"all\", by = [], share = \"1/1\" }]\n[[level]]\nname = \"state\"\n[[level]]\nname = \"block\"\nquery = [{ name = \"total\", by = [], share = \"1/1\" }]\n";
+
 // Cells 0, 1 and 2 of kinds 0, 0 and 1; cell 3 isn't possible.
 const WIDE_SCHEMA: &[u8] =
     b"version = 1\ntotal = \"1\"\nattribute = [{ name = \"kind\", values = [\"house\", \"dorm\"] }, { name = \"sex\", values = [\"f\", \"m\"] }]\nzero = [{ kind = [\"dorm\"], sex = [\"m\"] }]\n[[level]]\nname = \"nation\"\n[[level]]\nname = \"state\"\nquery = [{ name = \"kind\", by = [\"kind\"], share = \"1/4\" }, { name = \"all\", by = [], share = \"1/4\" }]\n[[level]]\nname = \"block\"\nquery = [{ name = \"detail\", by = [\"kind\", \"sex\"], share = \"1/4\" }]\n";
@@ -33,27 +37,35 @@ const WIDE_SCHEMA: &[u8] =
 const WIDE_SPINE: &[u8] =
     b"unit,level,parent\nUS,nation,\nS1,state,US\nB1,block,S1\nS2,state,US\nB2,block,S2\n";
 
-// Unit, query and class of each place.
-const WIDE_PLACES: [(u32, u32, u32); 12] = [
-    (1, 0, 0),
-    (1, 0, 2),
-    (1, 1, 0),
-    (3, 0, 0),
-    (3, 0, 2),
-    (3, 1, 0),
-    (2, 0, 0),
-    (2, 0, 1),
-    (2, 0, 2),
-    (4, 0, 0),
-    (4, 0, 1),
-    (4, 0, 2),
+// Schemas and spines, and unit, query and class of each of their places.
+const PLACES: [(&[u8], &[u8], &[(u32, u32, u32)]); 3] = [
+    (
+        WIDE_SCHEMA,
+        WIDE_SPINE,
+        &[
+            (1, 0, 0),
+            (1, 0, 2),
+            (1, 1, 0),
+            (3, 0, 0),
+            (3, 0, 2),
+            (3, 1, 0),
+            (2, 0, 0),
+            (2, 0, 1),
+            (2, 0, 2),
+            (4, 0, 0),
+            (4, 0, 1),
+            (4, 0, 2),
+        ],
+    ),
+    (TWINS, SPINE, &[(2, 0, 0), (2, 1, 0), (3, 0, 0), (3, 1, 0)]),
+    (OUTER_LEVELS, SPINE, &[(0, 0, 0), (2, 0, 0), (3, 0, 0)]),
 ];
 
 const WIDE_TEXT: &[u8] =
     b"unit,query,class,value\nS1,kind,0,0\nS1,kind,2,1\nS1,all,0,2\nS2,kind,0,3\nS2,kind,2,4\nS2,all,0,5\nB1,detail,0,6\nB1,detail,1,7\nB1,detail,2,8\nB2,detail,0,9\nB2,detail,1,10\nB2,detail,2,11\n";
 
 // Schemas, and the measurements of texts, one for each place of the schema.
-const ACCEPTED: [(&[u8], &[u8], &[i64]); 5] = [
+const ACCEPTED: [(&[u8], &[u8], &[i64]); 6] = [
     (
         SCHEMA,
         b"unit,query,class,value\nB1,total,0,3\nB2,total,0,4\n",
@@ -74,6 +86,11 @@ const ACCEPTED: [(&[u8], &[u8], &[i64]); 5] = [
         TWINS,
         b"unit,query,class,value\nB1,total,0,3\nB1,kind,0,4\nB2,total,0,-5\nB2,kind,0,6\n",
         &[3, 4, -5, 6],
+    ),
+    (
+        OUTER_LEVELS,
+        b"unit,query,class,value\nUS,all,0,7\nB1,total,0,3\nB2,total,0,4\n",
+        &[7, 3, 4],
     ),
 ];
 
@@ -219,8 +236,11 @@ fn has_places(
 
 #[test]
 fn order_of_places(rt: HostRuntime) -> Result<(), Fail> {
-    let same = has_places(rt.alloc(), WIDE_SCHEMA, WIDE_SPINE, &WIDE_PLACES)?;
-    assert!(rt; same);
+    for (schema, spine, due) in PLACES {
+        assert!(rt; schema.len() < 1000 && spine.len() < 1000);
+        let same = has_places(rt.alloc(), schema, spine, due)?;
+        assert!(rt; same);
+    }
     Ok(())
 }
 

@@ -1,9 +1,8 @@
 // Writes measurements.
-ghost use Rattle.std.specs.Prelude.{◌≡◌, ◌≤◌, ◌<◌, ◌^◌, ◌++◌, ◌∷◌, ℕ, Ok, [], length, take, true, OnOk, OnErr};
+ghost use Rattle.std.specs.Prelude.{◌≡◌, ◌≤◌, ◌^◌, ◌++◌, ◌∷◌, Ok, [], length, take, true, OnOk, OnErr};
 ghost use Rattle.std.specs.Fmt.{decimal, signed_decimal};
 ghost use Rattle.tda_io.specs.Texts.{name_test, row_text};
 ghost use Rattle.tda_model.specs.Sizes.{place_count, places_limit};
-ghost use Rattle.tda_schema.specs.Stated.{queries_at, query_at};
 ghost use Rattle.tda_places.specs.Measurements.{header, measurements_text, read, AreMeasurementsOf};
 
 use crate::Measurements;
@@ -69,27 +68,8 @@ fn push_all(
     Ok(())
 }
 
-// The queries of a level have names.
-fn name_queries(schema: &Schema, level: usize)
-    requires { level < length schema.now.levels }
-    ensures { (query : ℕ) → query < length (queries_at schema.now level) → name_test 32 (query_at schema.now level query).name ≡ true }
-{
-    for query in 0..schema.queries(level) {
-        let _ = schema.query_name(level, query);
-    }
-}
-
-// All queries have names.
-fn name_all_queries(schema: &Schema)
-    ensures { (level query : ℕ) → level < length schema.now.levels → query < length (queries_at schema.now level) → name_test 32 (query_at schema.now level query).name ≡ true }
-{
-    for level in 0..schema.levels() {
-        name_queries(schema, level);
-    }
-}
-
 /// Appends the file of measurements, with the header `unit,query,class,value` and a row for each place in the order of the
-/// places, at most 67 bytes a row and 2^30 bytes in all.
+/// places, at most 67 bytes a row, and 2^30 bytes in all where the spine was read with the schema.
 ///
 /// `read_measurements` accepts what is written, and gives the measurements back. After `NoMemory` nothing was appended.
 pub fn write_measurements(
@@ -107,7 +87,7 @@ pub fn write_measurements(
 {
     // Units have codes and queries names, and there are at most 4,096 cells.
     let _ = spine.units();
-    name_all_queries(schema);
+    let _ = schema.levels();
     let _ = schema.cells();
     let before = out.len();
     let written = push_all(schema, spine, m, out);

@@ -12,7 +12,7 @@ pub(crate) struct Record {
 }
 
 /// For each person a block, which is a unit of the last level, and a possible cell, in the order of the file. Records are
-/// numbered from 0, and take 8 bytes each.
+/// numbered from 0. Each takes 8 bytes in a list that grows as they are read, so that part of the list may be empty.
 #[derive(Debug, Drop)]
 pub struct Records {
     records: Vec<Record>,
@@ -34,7 +34,7 @@ impl Records {
         Records { records }
     }
 
-    /// How many records there are, at most 2^26.
+    /// How many records there are. `read_records` ensures that there are at most 2^26.
     pub fn len(&self) -> usize
         ensures { result ≡ length self.now }
     {

@@ -16,19 +16,25 @@ pub returns-in_err-sums-clause-one : goal.returns-in_err-sums-clause-one
 returns-in_err-sums-clause-one g c =
     let s = c.args.schema.now in
     let sp = c.args.spine.now in
-    noise_determined (variances_of s sp) (variances_positive s sp (λ level query within inside. c.know_shares.ensures level within query inside))
+    noise_determined (variances_of s sp) (variances_positive s sp c.levels.ensures.queries)
+
+pub returns-in_err-numbers-clause-one : goal.returns-in_err-numbers-clause-one
+returns-in_err-numbers-clause-one g c =
+    let s = c.args.schema.now in
+    let sp = c.args.spine.now in
+    noise_determined (variances_of s sp) (variances_positive s sp c.levels.ensures.queries)
 
 pub returns-in_err-measure_level-clause-one : goal.returns-in_err-measure_level-clause-one
 returns-in_err-measure_level-clause-one g c =
     let s = c.args.schema.now in
     let sp = c.args.spine.now in
-    noise_determined (variances_of s sp) (variances_positive s sp (λ level query within inside. c.know_shares.ensures level within query inside))
+    noise_determined (variances_of s sp) (variances_positive s sp c.levels.ensures.queries)
 
 pub returns-clause-one : goal.returns-clause-one
 returns-clause-one g c =
     let s = c.args.schema.now in
     let sp = c.args.spine.now in
-    noise_determined (variances_of s sp) (variances_positive s sp (λ level query within inside. c.know_shares.ensures level within query inside))
+    noise_determined (variances_of s sp) (variances_positive s sp c.levels.ensures.queries)
 
 pub returns-in_err-measure_level-clause-err : goal.returns-in_err-measure_level-clause-err
 returns-in_err-measure_level-clause-err g c =
