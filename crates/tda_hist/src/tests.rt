@@ -2,7 +2,7 @@
 ghost use Rattle.std.specs.Prelude.{◌≡◌, ◌≤◌, IfOk, length, sum};
 ghost use Rattle.tda_model.specs.Bounds.{persons_limit};
 ghost use Rattle.tda_out.specs.Counts.{count_at, AreCountsOf};
-ghost use Rattle.tda_hist.specs.TrueTable.{totals_of};
+ghost use Rattle.tda_hist.specs.TrueTable.{state_persons};
 
 use super::{HistFault, agree, class_sum, count, square_distance, state_totals};
 use std::alloc::Global;
@@ -227,7 +227,7 @@ fn tables_of(
 ) -> Result<Tables, Fail>
     requires { spine.now.depth ≡ length schema.now.levels }
     ensures tables { IfOk result (AreCountsOf schema.now spine.now) }
-    ensures few { IfOk result (λ tables. sum (totals_of schema.now spine.now (count_at tables)) ≤ persons_limit) }
+    ensures few { IfOk result (λ tables. sum (state_persons schema.now spine.now (count_at tables)) ≤ persons_limit) }
 {
     assert!(rt; text.len() < 1000);
     let records = read_records(alloc, schema, spine, text.as_bytes())?;
