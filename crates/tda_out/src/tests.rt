@@ -40,19 +40,6 @@ const FILES: [(&[u64], &str); 5] = [
     ),
 ];
 
-// Changes, each of a unit and a cell to a count.
-const CHANGES: [(u32, u32, u64); 6] = [
-    (3, 0, PERSONS),
-    (5, 0, 1),
-    (1, 1, 7),
-    (5, 1, 9),
-    (5, 0, 2),
-    (1, 0, 0),
-];
-
-// Both counts of each unit after these changes.
-const CHANGED: [(u64, u64); 6] = [(0, 0), (0, 7), (0, 0), (PERSONS, 0), (0, 0), (2, 9)];
-
 // Changes counts, each of a unit and a cell.
 fn set_all(
     rt: &impl Abort,
@@ -119,11 +106,24 @@ fn counts_that_are_set(rt: HostRuntime) -> Result<(), Fail> {
     let schema = read_schema(rt.alloc(), SCHEMA)?;
     let spine = read_spine(rt.alloc(), &schema, SPINE)?;
     let mut tables = Tables::new(rt.alloc(), &schema, &spine)?;
-    set_all(&rt, &schema, &spine, &mut tables, &CHANGES)?;
-    for (unit, due) in CHANGED.iter().enumerate() {
-        let first = count_in(&rt, &schema, &spine, &tables, (unit as u32, 0));
-        let second = count_in(&rt, &schema, &spine, &tables, (unit as u32, 1));
-        assert!(rt; (first, second) == *due, "at {unit}");
+    let changes = [(3, 0, PERSONS), (5, 0, 1), (1, 1, 7), (5, 1, 9), (5, 0, 2)];
+    set_all(&rt, &schema, &spine, &mut tables, &changes)?;
+    for (unit, cell, count) in [
+        (0, 1, 0),
+        (1, 0, 0),
+        (1, 1, 7),
+        (2, 0, 0),
+        (3, 0, PERSONS),
+        (3, 1, 0),
+        (4, 0, 0),
+        (5, 0, 2),
+        (5, 1, 9),
+    ] {
+        assert_eq!(rt;
+            count_in(&rt, &schema, &spine, &tables, (unit, cell)),
+            count,
+            "at {unit}"
+        );
     }
     Ok(())
 }
