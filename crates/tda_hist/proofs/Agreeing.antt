@@ -19,7 +19,7 @@ use Rattle.tda_invar.specs.Known.{known, is_short, short_of, join_fault}
 use Rattle.tda_invar.proofs.StatePlaces.{total_at}
 use Rattle.tda_invar.proofs.UnitLemmas.{units_within}
 use Rattle.tda_hist.specs.declared.fault.HistFault.TheVariants.{NoFacility, Short}
-use Rattle.tda_hist.specs.TrueTable.{totals_of, BlocksAddUp}
+use Rattle.tda_hist.specs.TrueTable.{state_persons, BlocksAddUp}
 use Rattle.tda_hist.specs.Agreement as agreement
 use Rattle.tda_hist.specs.Agreement.{found, has_no_facility, faults_at, block_faults, faults, agree_fault}
 
@@ -123,7 +123,7 @@ module _ (s : Schema) (sp : Spine) (t : IsTree sp (nation_of sp)) (f : NumberTab
         omega (arith, le, persons_by_kind s (x u) some_kind)
 
   -- and no state is short
-  pub join_accepts : 1 ≤ kind_count s → BlocksAddUp s sp x → join_fault s sp (known sp f (totals_of s sp x)) ≡ None
+  pub join_accepts : 1 ≤ kind_count s → BlocksAddUp s sp x → join_fault s sp (known sp f (state_persons s sp x)) ≡ None
   join_accepts some_kind adds =
       let persons : ℕ → ℕ = λ st. persons_in s (x st) in
       let states = units_at sp 1 in

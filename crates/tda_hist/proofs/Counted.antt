@@ -14,7 +14,7 @@ use Rattle.tda_out.proofs.RowLemmas.{counts_are, count_of}
 use Rattle.tda_schema.specs.Parts.{holds}
 use Rattle.tda_records.specs.Records.{AreRecordsOf}
 use Rattle.tda_records.specs.declared.records.Record.{Record}
-use Rattle.tda_hist.specs.TrueTable.{lives_in, true_count, class_count, class_sum, totals_of, persons_at, BlocksAddUp}
+use Rattle.tda_hist.specs.TrueTable.{lives_in, true_count, class_persons, class_sum, state_persons, persons_at, BlocksAddUp}
 use Rattle.tda_hist.specs.Tally.{tallied}
 use Rattle.tda_hist.proofs.Adding.{AreAdded, added_start}
 use Rattle.tda_hist.proofs.TrueCounts.{own_true, true_blocks, persons_are, persons_of_nation, persons_of_level, class_adds}
@@ -58,12 +58,12 @@ module _ (s : Schema) (sp : Spine) where
           (each_filter _ (is_at sp level) (unit_numbers sp) (each_range _ 0 (length sp.units) (λ u low high at. same_persons x counts is u (omega arith))))
           ∙ persons_of_level sp t records s are level within
 
-      pub counted_in_states : sum (totals_of s sp (count_at counts)) ≡ length records
+      pub counted_in_states : sum (state_persons s sp (count_at counts)) ≡ length records
       counted_in_states = sum-map (λ st. persons_in s (count_at counts st)) (units_at sp 1) ∙ counted_at_level 1 (omega (arith, t.deep))
 
   -- of true counts the sum over a class is how many persons of the class there are
   pub counted_class : (q : Query) → q.only ≡ [] → (records : List Record) (counts : Counts) → counts ≡ counts_of s sp (true_count sp records) → (u c : ℕ) → IsUnit sp u
-      → class_sum s q (count_at counts u) c ≡ class_count s sp q records u c
+      → class_sum s q (count_at counts u) c ≡ class_persons s sp q records u c
   counted_class q whole records counts is u c here =
       let x = true_count sp records u in
       let cells = class_cells s q c in

@@ -16,7 +16,7 @@ use Rattle.tda_records.specs.Records.{record_at, block_at, cell_at, IsRecordOf, 
 use Rattle.tda_records.specs.declared.records.Record.{Record}
 use Rattle.tda_schema.specs.Parts.{holds}
 use Rattle.tda_schema.specs.Stated.{class_of}
-use Rattle.tda_hist.specs.TrueTable.{lives_in, class_count}
+use Rattle.tda_hist.specs.TrueTable.{lives_in, class_persons}
 use Rattle.tda_hist.specs.Tally.{tallied}
 use Rattle.tda_hist.specs.Distance.{squared_gap, unit_gap, square_distance, AreNeighbours, AreClassCounts}
 use Rattle.tda_hist.proofs.CountLemmas.{one_if, turned, sums_same, sum_scaled, one_pair, count_pairs, gap_of_two, gap_limited}
@@ -57,7 +57,7 @@ module _ (s : Schema) (sp : Spine) (t : IsTree sp (nation_of sp)) (q : Query) (w
       (let one = one_there sp t r.block level is.block.here is.block.last within in omega (arith, one)) (one_class_there s q whole r.cell is.possible)
 
   module _ (records : List Record) (are : AreRecordsOf s sp records) where
-    count_total : sum_by (λ u. sum_by (class_count s sp q records u) (classes_of s q)) (units_at sp level) ≤ length records
+    count_total : sum_by (λ u. sum_by (class_persons s sp q records u) (classes_of s q)) (units_at sp level) ≤ length records
     count_total =
         count_pairs (λ u r. lives_in sp u r) (λ c r. holds (class_cells s q c) r.cell) (units_at sp level) (classes_of s q) records
         (each_weaker (IsRecordOf s sp) (λ r. sum_by (λ u. sum_by (λ c. one_if (counts_there u c r)) (classes_of s q)) (units_at sp level) ≤ 1) records counts_once
@@ -94,10 +94,10 @@ module _ (s : Schema) (sp : Spine) (t : IsTree sp (nation_of sp)) (q : Query) (w
         record {
           are = subst (AreCountsOf s sp) (sym is) (counts_are s sp (tallied f g records));
           each =
-              All-from_recursion (λ u. All (λ c. count_at counts u c ≡ class_count s sp q records u c) (classes_of s q)) (units_at sp level)
+              All-from_recursion (λ u. All (λ c. count_at counts u c ≡ class_persons s sp q records u c) (classes_of s q)) (units_at sp level)
               (each_filter _ (is_at sp level) (unit_numbers sp) (each_range _ 0 (length sp.units) (λ u low high at.
-              All-from_recursion (λ c. count_at counts u c ≡ class_count s sp q records u c) (classes_of s q)
-              (each_weaker (IsClass s q whole) (λ c. count_at counts u c ≡ class_count s sp q records u c) (classes_of s q)
+              All-from_recursion (λ c. count_at counts u c ≡ class_persons s sp q records u c) (classes_of s q)
+              (each_weaker (IsClass s q whole) (λ c. count_at counts u c ≡ class_persons s sp q records u c) (classes_of s q)
               (λ c class. ap (λ x. count_at x u c) is ∙ count_of s sp (tallied f g records) u c (omega arith) class.below
               ∙ sum_same (λ r. one_if ((f r == u) && (g r == c))) (λ r. one_if (counts_there u c r)) records
               (each_weaker (IsRecordOf s sp) (λ r. one_if ((f r == u) && (g r == c)) ≡ one_if (counts_there u c r)) records
@@ -110,7 +110,7 @@ module _ (s : Schema) (sp : Spine) (t : IsTree sp (nation_of sp)) (q : Query) (w
 
   module _ (first second : List Record) where
     abbrev gap : ℕ → ℕ → ℕ
-    gap u c = squared_gap (class_count s sp q first u c) (class_count s sp q second u c)
+    gap u c = squared_gap (class_persons s sp q first u c) (class_persons s sp q second u c)
 
     -- where each difference is within a bound their sum is within the bounds' sum
     distance_within : (bound : ℕ → ℕ → ℕ) → ((u c : ℕ) → gap u c ≤ bound u c)
@@ -130,15 +130,15 @@ module _ (s : Schema) (sp : Spine) (t : IsTree sp (nation_of sp)) (q : Query) (w
       pub distance_limit : square_distance s sp first second level q ≤ 2 ^ 53
       distance_limit =
           let m : ℕ = 2 ^ 26 in
-          let both : ℕ → ℕ → ℕ = λ u c. class_count s sp q first u c + class_count s sp q second u c in
+          let both : ℕ → ℕ → ℕ = λ u c. class_persons s sp q first u c + class_persons s sp q second u c in
           let le = distance_within (λ u c. m * both u c) (λ u c.
           let few_first = count_by-le-length (counts_there u c) first in
           let few_second = count_by-le-length (counts_there u c) second in
-          gap_limited m (class_count s sp q first u c) (class_count s sp q second u c) (omega (arith, few_first, one.few)) (omega (arith, few_second, other.few))) in
+          gap_limited m (class_persons s sp q first u c) (class_persons s sp q second u c) (omega (arith, few_first, one.few)) (omega (arith, few_second, other.few))) in
           let scaled : sum_by (λ u. sum_by (λ c. m * both u c) (classes_of s q)) (units_at sp level) ≡ m * sum_by (λ u. sum_by (both u) (classes_of s q)) (units_at sp level) =
           sums_same (λ u. sum_by (λ c. m * both u c) (classes_of s q)) (λ u. m * sum_by (both u) (classes_of s q)) (units_at sp level) (λ u. sum_scaled m (both u) (classes_of s q))
           ∙ sum_scaled m (λ u. sum_by (both u) (classes_of s q)) (units_at sp level) in
-          let split = both_sums (class_count s sp q first) (class_count s sp q second) in
+          let split = both_sums (class_persons s sp q first) (class_persons s sp q second) in
           within_limit (sum_by (λ u. sum_by (both u) (classes_of s q)) (units_at sp level)) (square_distance s sp first second level q)
           (omega (arith, le, scaled)) (omega (arith, split, count_total first one, count_total second other, one.few, other.few))
         where
@@ -147,7 +147,7 @@ module _ (s : Schema) (sp : Spine) (t : IsTree sp (nation_of sp)) (q : Query) (w
 
       pub equal_distance : first ≡ second → square_distance s sp first second level q ≡ 0
       equal_distance same =
-          let le = distance_within (λ u c. 0) (λ u c. ap_gap (class_count s sp q first u c) (class_count s sp q second u c) (ap (λ rs. class_count s sp q rs u c) same)) in
+          let le = distance_within (λ u c. 0) (λ u c. ap_gap (class_persons s sp q first u c) (class_persons s sp q second u c) (ap (λ rs. class_persons s sp q rs u c) same)) in
           let none : sum_by (λ u. sum_by (λ c. 0) (classes_of s q)) (units_at sp level) ≡ 0 =
           sums_same (λ u. sum_by (λ c. 0) (classes_of s q)) (λ u. 0) (units_at sp level) (λ u. sum_zero (classes_of s q)) ∙ sum_zero (units_at sp level) in
           omega (arith, le, none)
@@ -163,8 +163,8 @@ module _ (s : Schema) (sp : Spine) (t : IsTree sp (nation_of sp)) (q : Query) (w
             let b = record_at second n.place in
             let le = distance_within (λ u c. one_if (counts_there u c a) + one_if (counts_there u c b)) (λ u c.
             let count = sum_by-set (λ r. one_if (counts_there u c r)) first n.place b (record { block = 0; cell = 0 }) below in
-            let other_count : class_count s sp q second u c ≡ count_by (counts_there u c) (set first n.place b) = ap (λ rs. class_count s sp q rs u c) (replaced first second n below) in
-            gap_of_two (class_count s sp q first u c) (class_count s sp q second u c) (counts_there u c a) (counts_there u c b) (omega (arith, count, other_count))) in
+            let other_count : class_persons s sp q second u c ≡ count_by (counts_there u c) (set first n.place b) = ap (λ rs. class_persons s sp q rs u c) (replaced first second n below) in
+            gap_of_two (class_persons s sp q first u c) (class_persons s sp q second u c) (counts_there u c a) (counts_there u c b) (omega (arith, count, other_count))) in
             let split = both_sums (λ u c. one_if (counts_there u c a)) (λ u c. one_if (counts_there u c b)) in
             let once_first = counts_once a (one.each n.place (record { block = 0; cell = 0 }) below) in
             let once_second = counts_once b (other.each n.place (record { block = 0; cell = 0 }) (omega (arith, n.size, below))) in
@@ -175,16 +175,16 @@ module _ (s : Schema) (sp : Spine) (t : IsTree sp (nation_of sp)) (q : Query) (w
   module _ (first second : List Record) (ones others : Counts) (one : AreClassCounts s sp first level q ones) (other : AreClassCounts s sp second level q others) where
     pub same_distance : sum_by (unit_gap ones others (classes_of s q)) (units_at sp level) ≡ square_distance s sp first second level q
     same_distance =
-        sum_same (unit_gap ones others (classes_of s q)) (λ u. sum_by (λ c. squared_gap (class_count s sp q first u c) (class_count s sp q second u c)) (classes_of s q)) (units_at sp level)
-        (each_both (λ u. All (λ c. count_at ones u c ≡ class_count s sp q first u c) (classes_of s q)) (λ u. All (λ c. count_at others u c ≡ class_count s sp q second u c) (classes_of s q)) _ (units_at sp level)
+        sum_same (unit_gap ones others (classes_of s q)) (λ u. sum_by (λ c. squared_gap (class_persons s sp q first u c) (class_persons s sp q second u c)) (classes_of s q)) (units_at sp level)
+        (each_both (λ u. All (λ c. count_at ones u c ≡ class_persons s sp q first u c) (classes_of s q)) (λ u. All (λ c. count_at others u c ≡ class_persons s sp q second u c) (classes_of s q)) _ (units_at sp level)
         (λ u here there.
-        sum_same (λ c. squared_gap (count_at ones u c) (count_at others u c)) (λ c. squared_gap (class_count s sp q first u c) (class_count s sp q second u c)) (classes_of s q)
-        (each_both (λ c. count_at ones u c ≡ class_count s sp q first u c) (λ c. count_at others u c ≡ class_count s sp q second u c) _ (classes_of s q)
-        (λ c is are. ap (λ m. squared_gap m (count_at others u c)) is ∙ ap (squared_gap (class_count s sp q first u c)) are)
-        (recursion_from_All (λ c. count_at ones u c ≡ class_count s sp q first u c) (classes_of s q) here)
-        (recursion_from_All (λ c. count_at others u c ≡ class_count s sp q second u c) (classes_of s q) there)))
-        (recursion_from_All (λ u. All (λ c. count_at ones u c ≡ class_count s sp q first u c) (classes_of s q)) (units_at sp level) one.each)
-        (recursion_from_All (λ u. All (λ c. count_at others u c ≡ class_count s sp q second u c) (classes_of s q)) (units_at sp level) other.each))
+        sum_same (λ c. squared_gap (count_at ones u c) (count_at others u c)) (λ c. squared_gap (class_persons s sp q first u c) (class_persons s sp q second u c)) (classes_of s q)
+        (each_both (λ c. count_at ones u c ≡ class_persons s sp q first u c) (λ c. count_at others u c ≡ class_persons s sp q second u c) _ (classes_of s q)
+        (λ c is are. ap (λ m. squared_gap m (count_at others u c)) is ∙ ap (squared_gap (class_persons s sp q first u c)) are)
+        (recursion_from_All (λ c. count_at ones u c ≡ class_persons s sp q first u c) (classes_of s q) here)
+        (recursion_from_All (λ c. count_at others u c ≡ class_persons s sp q second u c) (classes_of s q) there)))
+        (recursion_from_All (λ u. All (λ c. count_at ones u c ≡ class_persons s sp q first u c) (classes_of s q)) (units_at sp level) one.each)
+        (recursion_from_All (λ u. All (λ c. count_at others u c ≡ class_persons s sp q second u c) (classes_of s q)) (units_at sp level) other.each))
 
 -- there is a count for each class
 pub class_places : (s : Schema) (sp : Spine) (q : Query) (whole : q.only ≡ []) (counts : Counts) → AreCountsOf s sp counts → (u : ℕ) → IsUnit sp u

@@ -13,7 +13,7 @@ use Rattle.tda_schema.specs.Parts.{holds}
 use Rattle.tda_schema.proofs.WholeLemmas.{cell_of_possible}
 use Rattle.tda_records.specs.Records.{IsRecordOf, AreRecordsOf}
 use Rattle.tda_records.specs.declared.records.Record.{Record}
-use Rattle.tda_hist.specs.TrueTable.{lives_in, true_count, class_count, class_sum, persons_at, BlocksAddUp}
+use Rattle.tda_hist.specs.TrueTable.{lives_in, true_count, class_persons, class_sum, persons_at, BlocksAddUp}
 use Rattle.tda_hist.specs.Tally.{tallied}
 use Rattle.tda_hist.proofs.CountLemmas.{one_if, turned, sums_same, sum_ones, count_by_number, count_by_number_last}
 use Rattle.tda_hist.proofs.ClassCells.{class_ascends}
@@ -82,5 +82,5 @@ module _ (sp : Spine) (t : IsTree sp (nation_of sp)) (records : List Record) whe
         ∙ sum_ones records
 
 -- the count of a class is the sum of the true counts over its cells
-pub class_adds : (s : Schema) (sp : Spine) (q : Query) → q.only ≡ [] → (records : List Record) (u c : ℕ) → class_count s sp q records u c ≡ class_sum s q (true_count sp records u) c
+pub class_adds : (s : Schema) (sp : Spine) (q : Query) → q.only ≡ [] → (records : List Record) (u c : ℕ) → class_persons s sp q records u c ≡ class_sum s q (true_count sp records u) c
 class_adds s sp q whole records u c = count_by_number_last (λ r. r.cell) (λ r. lives_in sp u r) (class_cells s q c) (class_ascends s q whole c) records

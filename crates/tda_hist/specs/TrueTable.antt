@@ -16,8 +16,8 @@ abbrev pub true_count : Spine → List Record → Tables
 true_count sp records u j = count_by (λ r. lives_in sp u r && (r.cell == j)) records
 
 -- how many of them have a cell of a query's class c
-abbrev pub class_count : Schema → Spine → Query → List Record → Tables
-class_count s sp q records u c = count_by (λ r. lives_in sp u r && holds (class_cells s q c) r.cell) records
+abbrev pub class_persons : Schema → Spine → Query → List Record → Tables
+class_persons s sp q records u c = count_by (λ r. lives_in sp u r && holds (class_cells s q c) r.cell) records
 
 -- the counts of a table over the cells of a query's class c
 abbrev pub class_sum : Schema → Query → Table → ℕ → ℕ
@@ -28,8 +28,8 @@ abbrev pub persons_at : Schema → Spine → Tables → ℕ → ℕ
 persons_at s sp x level = sum_by (λ u. persons_in s (x u)) (units_at sp level)
 
 -- the persons of each state, in file order
-abbrev pub totals_of : Schema → Spine → Tables → List ℕ
-totals_of s sp x = map (λ st. persons_in s (x st)) (units_at sp 1)
+abbrev pub state_persons : Schema → Spine → Tables → List ℕ
+state_persons s sp x = map (λ st. persons_in s (x st)) (units_at sp 1)
 
 -- each unit's table is those of its blocks together
 abbrev pub BlocksAddUp : Schema → Spine → Tables → Type 0

@@ -5,7 +5,7 @@ ghost use Rattle.tda_model.specs.Spine.{IsUnit};
 ghost use Rattle.tda_invar.specs.Facilities.{IsTableOf};
 ghost use Rattle.tda_invar.specs.Known.{known, join_fault};
 ghost use Rattle.tda_out.specs.Counts.{count_at, AreCountsOf};
-ghost use Rattle.tda_hist.specs.TrueTable.{totals_of, BlocksAddUp};
+ghost use Rattle.tda_hist.specs.TrueTable.{state_persons, BlocksAddUp};
 ghost use Rattle.tda_hist.specs.Agreement.{faults_at, block_faults, agree_due};
 
 use crate::HistFault;
@@ -90,7 +90,7 @@ pub fn agree(
     requires tables { AreCountsOf schema.now spine.now tables.now }
     requires facilities { IsTableOf schema.now spine.now facilities.now }
     ensures due { result ≡ agree_due schema.now spine.now facilities.now (count_at tables.now) }
-    ensures join { BlocksAddUp schema.now spine.now (count_at tables.now) → OnOk result (join_fault schema.now spine.now (known spine.now facilities.now (totals_of schema.now spine.now (count_at tables.now))) ≡ None) }
+    ensures join { BlocksAddUp schema.now spine.now (count_at tables.now) → OnOk result (join_fault schema.now spine.now (known spine.now facilities.now (state_persons schema.now spine.now (count_at tables.now))) ≡ None) }
 {
     // There are at least two levels, and the blocks are the units of the last.
     let _ = spine.units();

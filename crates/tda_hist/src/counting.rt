@@ -7,7 +7,7 @@ ghost use Rattle.tda_model.specs.Tables.{persons_in};
 ghost use Rattle.tda_out.specs.Counts.{count_at, counts_of, with_count, AreCountsOf};
 ghost use Rattle.tda_records.specs.Records.{AreRecordsOf};
 ghost use Rattle.tda_spine.specs.Sound.{IsSound};
-ghost use Rattle.tda_hist.specs.TrueTable.{lives_in, true_count, totals_of, persons_at, BlocksAddUp};
+ghost use Rattle.tda_hist.specs.TrueTable.{lives_in, true_count, state_persons, persons_at, BlocksAddUp};
 ghost use Rattle.tda_hist.specs.Tally.{tallied, HasTable};
 
 use std::alloc::Global;
@@ -99,7 +99,7 @@ pub fn count(
     ensures persons { IfOk result (λ tables. (u : ℕ) → IsUnit spine.now u → persons_in schema.now (count_at tables u) ≡ count_by (lives_in spine.now u) records.now) }
     ensures nation { IfOk result (λ tables. persons_in schema.now (count_at tables (nation_of spine.now)) ≡ length records.now) }
     ensures levels { IfOk result (λ tables. (level : ℕ) → level < spine.now.depth → persons_at schema.now spine.now (count_at tables) level ≡ length records.now) }
-    ensures states { IfOk result (λ tables. sum (totals_of schema.now spine.now (count_at tables)) ≡ length records.now) }
+    ensures states { IfOk result (λ tables. sum (state_persons schema.now spine.now (count_at tables)) ≡ length records.now) }
 {
     // The units are a tree.
     let _ = spine.units();

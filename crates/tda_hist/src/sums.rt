@@ -11,7 +11,7 @@ ghost use Rattle.tda_places.specs.Places.{IsPlace};
 ghost use Rattle.tda_records.specs.declared.records.Record.{Record};
 ghost use Rattle.tda_schema.specs.Parts.{holds};
 ghost use Rattle.tda_schema.specs.Stated.{queries_at, query_at};
-ghost use Rattle.tda_hist.specs.TrueTable.{true_count, class_count, class_sum, totals_of};
+ghost use Rattle.tda_hist.specs.TrueTable.{true_count, class_persons, class_sum, state_persons};
 
 use std::alloc::Global;
 use tda_invar::Totals;
@@ -64,8 +64,8 @@ pub fn state_totals(
     tables: &Tables,
 ) -> Result<Totals, NoMemory>
     requires tables { AreCountsOf schema.now spine.now tables.now }
-    requires few { sum (totals_of schema.now spine.now (count_at tables.now)) ≤ persons_limit }
-    ensures totals { IfOk result (λ totals. totals ≡ totals_of schema.now spine.now (count_at tables.now)) }
+    requires few { sum (state_persons schema.now spine.now (count_at tables.now)) ≤ persons_limit }
+    ensures totals { IfOk result (λ totals. totals ≡ state_persons schema.now spine.now (count_at tables.now)) }
     ensures belong { IfOk result (AreTotalsOf spine.now) }
 {
     // There is a level of states.
@@ -98,7 +98,7 @@ pub fn class_sum(schema: &Schema, spine: &Spine, tables: &Tables, place: Place) 
     requires tables { AreCountsOf schema.now spine.now tables.now }
     requires place { IsPlace schema.now spine.now place }
     ensures value { result ≡ class_sum schema.now (query_at schema.now (level_of spine.now place.unit) place.query) (count_at tables.now place.unit) place.class }
-    ensures persons { (records : List Record) → tables.now ≡ counts_of schema.now spine.now (true_count spine.now records) → result ≡ class_count schema.now spine.now (query_at schema.now (level_of spine.now place.unit) place.query) records place.unit place.class }
+    ensures persons { (records : List Record) → tables.now ≡ counts_of schema.now spine.now (true_count spine.now records) → result ≡ class_persons schema.now spine.now (query_at schema.now (level_of spine.now place.unit) place.query) records place.unit place.class }
     ensures limit { result ≤ 2 ^ 42 }
 {
     // Each unit is of one of the levels, and queries are over all possible cells.

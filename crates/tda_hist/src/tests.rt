@@ -2,7 +2,7 @@
 ghost use Rattle.std.specs.Prelude.{◌≡◌, ◌≤◌, IfOk, length, sum};
 ghost use Rattle.tda_model.specs.Bounds.{persons_limit};
 ghost use Rattle.tda_out.specs.Counts.{count_at, AreCountsOf};
-ghost use Rattle.tda_hist.specs.TrueTable.{totals_of};
+ghost use Rattle.tda_hist.specs.TrueTable.{state_persons};
 
 use super::{HistFault, agree, class_sum, count, square_distance, state_totals};
 use std::alloc::Global;
@@ -104,19 +104,32 @@ const OF_HOUSES: [(&str, &str, u64); 3] = [
     (HOUSES, "block,kind\n", 13),
 ];
 
-const DORM_SCHEMA: &[u8] =
-    b"version = 1\ntotal = \"1\"\n[[attribute]]\nname = \"kind\"\nvalues = [\"house\", \"dorm\"]\n[[level]]\nname = \"nation\"\nquery = [{ name = \"kind\", by = [\"kind\"], share = \"1/2\" }]\n[[level]]\nname = \"state\"\n[[level]]\nname = \"block\"\nquery = [{ name = \"kind\", by = [\"kind\"], share = \"1/2\" }]\n";
+// Kinds 1 and 2 are dormitories and prisons.
+const KINDS_SCHEMA: &[u8] =
+    b"version = 1\ntotal = \"1\"\n[[attribute]]\nname = \"kind\"\nvalues = [\"house\", \"dorm\", \"prison\"]\n[[level]]\nname = \"nation\"\n[[level]]\nname = \"state\"\n[[level]]\nname = \"block\"\n";
 
-const DORMS: &[u8] = b"block,kind,count\nB1,dorm,2\n";
+const DORMS: &str = "block,kind,count\nB1,dorm,2\n";
 
-// Records, and whether they agree with two dormitories in B1.
-const JUDGED: [(&str, Result<(), HistFault>); 6] = [
-    ("block,kind\nB1,dorm\nB2,house\nB1,dorm\nB1,dorm\n", Ok(())),
+const PRISON: &str = "block,kind,count\nB1,prison,1\n";
+
+const BOTH: &str = "block,kind,count\nB1,prison,2\nB1,dorm,1\n";
+
+const APART: &str = "block,kind,count\nB2,dorm,1\nB1,prison,1\n";
+
+// Facilities, records, and whether they agree.
+const JUDGED: [(&str, &str, Result<(), HistFault>); 13] = [
     (
+        DORMS,
+        "block,kind\nB1,dorm\nB2,house\nB1,dorm\nB1,dorm\n",
+        Ok(()),
+    ),
+    (
+        DORMS,
         "block,kind\nB1,dorm\nB1,dorm\nB2,dorm\n",
         Err(HistFault::NoFacility { block: 3, kind: 1 }),
     ),
     (
+        DORMS,
         "block,kind\nB1,dorm\n",
         Err(HistFault::Short {
             block: 2,
@@ -126,6 +139,7 @@ const JUDGED: [(&str, Result<(), HistFault>); 6] = [
         }),
     ),
     (
+        DORMS,
         "block,kind\n",
         Err(HistFault::Short {
             block: 2,
@@ -135,6 +149,7 @@ const JUDGED: [(&str, Result<(), HistFault>); 6] = [
         }),
     ),
     (
+        DORMS,
         "block,kind\nB2,dorm\nB1,house\nB1,house\n",
         Err(HistFault::Short {
             block: 2,
@@ -144,8 +159,61 @@ const JUDGED: [(&str, Result<(), HistFault>); 6] = [
         }),
     ),
     (
+        DORMS,
         "block,kind\nB2,dorm\nB2,dorm\nB1,dorm\nB1,dorm\n",
         Err(HistFault::NoFacility { block: 3, kind: 1 }),
+    ),
+    // Within a block the kinds are judged in their order, whichever fault each has.
+    (
+        PRISON,
+        "block,kind\nB1,dorm\n",
+        Err(HistFault::NoFacility { block: 2, kind: 1 }),
+    ),
+    (
+        PRISON,
+        "block,kind\nB2,dorm\n",
+        Err(HistFault::Short {
+            block: 2,
+            kind: 2,
+            found: 0,
+            needed: 1,
+        }),
+    ),
+    (
+        DORMS,
+        "block,kind\nB1,prison\nB1,dorm\n",
+        Err(HistFault::Short {
+            block: 2,
+            kind: 1,
+            found: 1,
+            needed: 2,
+        }),
+    ),
+    (
+        DORMS,
+        "block,kind\nB1,prison\nB1,dorm\nB1,dorm\n",
+        Err(HistFault::NoFacility { block: 2, kind: 2 }),
+    ),
+    (
+        BOTH,
+        "block,kind\nB1,prison\nB1,dorm\nB1,dorm\n",
+        Err(HistFault::Short {
+            block: 2,
+            kind: 2,
+            found: 1,
+            needed: 2,
+        }),
+    ),
+    (BOTH, "block,kind\nB1,prison\nB1,dorm\nB1,prison\n", Ok(())),
+    (
+        APART,
+        "block,kind\n",
+        Err(HistFault::Short {
+            block: 2,
+            kind: 2,
+            found: 0,
+            needed: 1,
+        }),
     ),
 ];
 
@@ -159,7 +227,7 @@ fn tables_of(
 ) -> Result<Tables, Fail>
     requires { spine.now.depth ≡ length schema.now.levels }
     ensures tables { IfOk result (AreCountsOf schema.now spine.now) }
-    ensures few { IfOk result (λ tables. sum (totals_of schema.now spine.now (count_at tables)) ≤ persons_limit) }
+    ensures few { IfOk result (λ tables. sum (state_persons schema.now spine.now (count_at tables)) ≤ persons_limit) }
 {
     assert!(rt; text.len() < 1000);
     let records = read_records(alloc, schema, spine, text.as_bytes())?;
@@ -229,21 +297,23 @@ fn sums_of_classes(rt: HostRuntime) -> Result<(), Fail> {
 fn is_judged(
     rt: &impl Abort,
     alloc: Global,
-    text: &str,
+    facilities: &str,
+    records: &str,
     due: Result<(), HistFault>,
 ) -> Result<bool, Fail> {
-    let schema = read_schema(alloc, DORM_SCHEMA)?;
+    let schema = read_schema(alloc, KINDS_SCHEMA)?;
     let spine = read_spine(alloc, &schema, SPINE)?;
-    let facilities = read_facilities(alloc, &schema, &spine, DORMS)?;
-    let tables = tables_of(rt, alloc, &schema, &spine, text)?;
+    assert!(rt; facilities.len() < 1000);
+    let facilities = read_facilities(alloc, &schema, &spine, facilities.as_bytes())?;
+    let tables = tables_of(rt, alloc, &schema, &spine, records)?;
     Ok(agree(&schema, &spine, &tables, &facilities) == due)
 }
 
 #[test]
 fn agreement_with_facilities(rt: HostRuntime) -> Result<(), Fail> {
-    for (text, due) in JUDGED {
-        let is_due = is_judged(&rt, rt.alloc(), text, due)?;
-        assert!(rt; is_due, "{text}");
+    for (facilities, records, due) in JUDGED {
+        let is_due = is_judged(&rt, rt.alloc(), facilities, records, due)?;
+        assert!(rt; is_due, "{facilities}{records}");
     }
     Ok(())
 }

@@ -11,7 +11,7 @@ use thiserror::Error;
 pub enum JoinFault {
     /// The first state whose total is below the sum of its facilities of all kinds: its number among the units, which are
     /// numbered from 0 in file order, its total, from 0 to 2^30 persons, and how many persons its facilities need, more
-    /// than that and at most 2^53.
+    /// than that and below 2^44.
     #[error("state {state} has {total} persons and needs {needed}")]
     Short { state: u32, total: u64, needed: u64 },
     /// There was not enough memory.

@@ -1,3 +1,4 @@
+// What ledgers hold, and the files that they are written to.
 use crate::{make_ledger, write_ledger};
 use std::test::Fail;
 use tda_schema::read_schema;
@@ -27,11 +28,11 @@ values = ["house"]
 
 [[level]]
 name = "nation"
-query = [{ name = "one", by = [], share = "1/3" }]
+query = [{ name = "kind", by = ["kind"], share = "1/4" }, { name = "all", by = [], share = "1/12" }]
 
 [[level]]
 name = "block"
-query = [{ name = "two", by = [], share = "2/12" }]
+query = [{ name = "again", by = [], share = "2/12" }]
 "#;
 
 // Schemas, and their ledgers as files.
@@ -39,12 +40,12 @@ const LEDGERS: [(&str, &str); 2] = [
     (NO_QUERY, "level,query,share\n-,spent,0/1\n-,total,1/1\n"),
     (
         TWO_LEVELS,
-        "level,query,share\nnation,one,1/3\nblock,two,1/6\n-,spent,1/2\n-,total,1/2\n",
+        "level,query,share\nnation,kind,1/4\nnation,all,1/12\nblock,again,1/6\n-,spent,1/2\n-,total,1/2\n",
     ),
 ];
 
 // The level, the query and the share of each row of two levels.
-const ROWS: [[u64; 4]; 2] = [[0, 0, 1, 3], [1, 0, 1, 6]];
+const ROWS: [[u64; 4]; 3] = [[0, 0, 1, 4], [0, 1, 1, 12], [1, 0, 1, 6]];
 
 #[test]
 fn writes_ledgers(rt: HostRuntime) -> Result<(), Fail> {
@@ -69,7 +70,7 @@ fn tells_what_is_spent(rt: HostRuntime) -> Result<(), Fail> {
     assert!(rt; TWO_LEVELS.len() <= 1000);
     let schema = read_schema(rt.alloc(), TWO_LEVELS.as_bytes())?;
     let ledger = make_ledger(rt.alloc(), &schema)?;
-    assert_eq!(rt; ledger.len(), 2);
+    assert_eq!(rt; ledger.len(), 3);
     for i in 0..ledger.len() {
         let row = ledger.row(i);
         let found = [
@@ -78,7 +79,7 @@ fn tells_what_is_spent(rt: HostRuntime) -> Result<(), Fail> {
             row.share.num(),
             row.share.den(),
         ];
-        assert!(rt; i < 2 && found == ROWS[i]);
+        assert!(rt; i < 3 && found == ROWS[i]);
     }
     assert_eq!(rt; (ledger.spent().num(), ledger.spent().den()), (1, 2));
     assert_eq!(rt; (ledger.total().num(), ledger.total().den()), (1, 2));

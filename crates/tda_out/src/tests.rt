@@ -10,26 +10,34 @@ use tda_io::{NoMemory, PERSONS};
 use tda_schema::{Schema, read_schema};
 use tda_spine::{Spine, read_spine};
 
+// Two cells.
 const SCHEMA: &[u8] =
-    b"version = 1\ntotal = \"1\"\n[[attribute]]\nname = \"kind\"\nvalues = [\"house\"]\n[[level]]\nname = \"nation\"\n[[level]]\nname = \"state\"\n[[level]]\nname = \"block\"\n";
+    b"version = 1\ntotal = \"1\"\n[[attribute]]\nname = \"kind\"\nvalues = [\"house\", \"dorm\"]\n[[level]]\nname = \"nation\"\n[[level]]\nname = \"state\"\n[[level]]\nname = \"block\"\n";
 
 // In file order the units are S2, B1, US, B2, S1 and B3.
 const SPINE: &[u8] =
     b"unit,level,parent\nS2,state,US\nB1,block,S1\nUS,nation,\nB2,block,S2\nS1,state,US\nB3,block,S1\n";
 
-// The counts of units in file order, and the file.
-const FILES: [(&[u64], &str); 4] = [
-    (&[0, 0, 0, 0, 0, 0], "unit,cell,count\n"),
+// The counts of units in file order, two for each, and the file.
+const FILES: [(&[u64], &str); 5] = [
+    (&[0, 0, 0, 0, 0, 0, 0, 0, 0, 0, 0, 0], "unit,cell,count\n"),
     (
-        &[1, 2, 6, 1, 5, 3],
+        &[1, 0, 2, 0, 6, 0, 1, 0, 5, 0, 3, 0],
         "unit,cell,count\nUS,0,6\nS2,0,1\nS1,0,5\nB2,0,1\nB1,0,2\nB3,0,3\n",
     ),
     (
-        &[0, 0, PERSONS, 0, PERSONS, PERSONS],
-        "unit,cell,count\nUS,0,1073741824\nS1,0,1073741824\nB3,0,1073741824\n",
+        &[0, 4, 2, 1, 5, 5, 0, 4, 5, 1, 3, 0],
+        "unit,cell,count\nUS,0,5\nUS,1,5\nS2,1,4\nS1,0,5\nS1,1,1\nB2,1,4\nB1,0,2\nB1,1,1\nB3,0,3\n",
+    ),
+    (
+        &[0, 0, 0, 0, 0, PERSONS, 0, 0, 0, PERSONS, PERSONS, 0],
+        "unit,cell,count\nUS,1,1073741824\nS1,1,1073741824\nB3,0,1073741824\n",
     ),
     // Nothing asks that the counts add up.
-    (&[0, 7, 0, 0, 0, 0], "unit,cell,count\nB1,0,7\n"),
+    (
+        &[0, 0, 0, 7, 0, 0, 0, 0, 0, 0, 0, 0],
+        "unit,cell,count\nB1,1,7\n",
+    ),
 ];
 
 // Changes counts, each of a unit and a cell.
@@ -67,7 +75,7 @@ fn count_in(
     tables.get(place.0, place.1)
 }
 
-// Appends the rows of these units by the counts of all units.
+// Appends the rows of these units by both counts of each unit.
 fn write_some(
     rt: &impl Abort,
     alloc: Global,
@@ -79,7 +87,9 @@ fn write_some(
 ) -> Result<(), Fail> {
     let mut numbers = Vec::new(alloc);
     for unit in units {
-        numbers.push(*counts.get(*unit as usize).ok_or("no count")?)?;
+        let first = 2 * *unit as usize;
+        numbers.push(*counts.get(first).ok_or("no count")?)?;
+        numbers.push(*counts.get(first + 1).ok_or("no count")?)?;
     }
     let known = spine.units();
     assert!(rt; units.iter().all(|unit| *unit < known));
@@ -96,11 +106,21 @@ fn counts_that_are_set(rt: HostRuntime) -> Result<(), Fail> {
     let schema = read_schema(rt.alloc(), SCHEMA)?;
     let spine = read_spine(rt.alloc(), &schema, SPINE)?;
     let mut tables = Tables::new(rt.alloc(), &schema, &spine)?;
-    let changes = [(3, 0, PERSONS), (5, 0, 1), (1, 0, 7), (5, 0, 2)];
+    let changes = [(3, 0, PERSONS), (5, 0, 1), (1, 1, 7), (5, 1, 9), (5, 0, 2)];
     set_all(&rt, &schema, &spine, &mut tables, &changes)?;
-    for (unit, count) in [(0, 0), (1, 7), (2, 0), (3, PERSONS), (4, 0), (5, 2)] {
+    for (unit, cell, count) in [
+        (0, 1, 0),
+        (1, 0, 0),
+        (1, 1, 7),
+        (2, 0, 0),
+        (3, 0, PERSONS),
+        (3, 1, 0),
+        (4, 0, 0),
+        (5, 0, 2),
+        (5, 1, 9),
+    ] {
         assert_eq!(rt;
-            count_in(&rt, &schema, &spine, &tables, (unit, 0)),
+            count_in(&rt, &schema, &spine, &tables, (unit, cell)),
             count,
             "at {unit}"
         );

@@ -14,7 +14,7 @@ use Rattle.tda_out.specs.Counts.{Counts, count_at, counts_of, AreCountsOf}
 use Rattle.tda_out.proofs.RowLemmas.{count_of}
 use Rattle.tda_records.specs.Records.{AreRecordsOf}
 use Rattle.tda_records.specs.declared.records.Record.{Record}
-use Rattle.tda_hist.specs.TrueTable.{lives_in, true_count, totals_of}
+use Rattle.tda_hist.specs.TrueTable.{lives_in, true_count, state_persons}
 use Rattle.tda_hist.specs.Agreement.{found, has_no_facility, is_short, faults_at, block_faults, faults, agree_fault, agree_due}
 use Rattle.tda_hist.specs.declared.fault.HistFault.{HistFault}
 use Rattle.tda_hist.specs.declared.fault.HistFault.TheVariants.{NoFacility, Short}
@@ -72,7 +72,7 @@ module _ (s : Schema) (sp : Spine) (x : Tables) (counts : Counts) (is : counts �
 
 -- the counts of the true tables of these records can be measured
 pub true_counts : (s : Schema) (sp : Spine) (r : List Record) (counts : Counts) → AreRecordsOf s sp r → AreCountsOf s sp counts → counts ≡ counts_of s sp (true_count sp r)
-    → ((u : ℕ) → IsUnit sp u → persons_in s (count_at counts u) ≡ count_by (lives_in sp u) r) → sum (totals_of s sp (count_at counts)) ≡ length r → AreTrueCounts s sp r counts
+    → ((u : ℕ) → IsUnit sp u → persons_in s (count_at counts u) ≡ count_by (lives_in sp u) r) → sum (state_persons s sp (count_at counts)) ≡ length r → AreTrueCounts s sp r counts
 true_counts s sp r counts are sized is persons states = record {
   records = are;
   counts_are = is;

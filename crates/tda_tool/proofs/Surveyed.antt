@@ -12,7 +12,7 @@ use Rattle.tda_out.specs.Counts.{count_at}
 use Rattle.tda_out.proofs.RowLemmas.{count_of}
 use Rattle.tda_places.specs.Places.{place, query_places, query_numbers, unit_places, level_places, level_numbers, places_of}
 use Rattle.tda_places.specs.declared.place.Place.{Place}
-use Rattle.tda_hist.specs.TrueTable.{class_sum, true_count, totals_of}
+use Rattle.tda_hist.specs.TrueTable.{class_sum, true_count, state_persons}
 use Rattle.tda_measure.specs.Measured.{sum_at, sums_of, noisy, AreMeasured}
 use Rattle.tda_tool.specs.Measuring.{Survey, state_counts}
 use Rattle.tda_tool.specs.Reading.{noise_words, IsCounted}
@@ -79,17 +79,17 @@ module _ (v : Survey) (c : Counted) (is : IsCounted v c) where
       measured_same v.schema v.spine (count_at c.tables) (true_count v.spine v.records) counts_same w m r
       (subst (λ sp. AreMeasured v.schema sp (count_at c.tables) w m r) is.spine (subst (λ s. AreMeasured s c.spine (count_at c.tables) w m r) is.schema are))
 
-  totals_same : totals_of c.schema c.spine (count_at c.tables) ≡ state_counts v.spine v.records
+  totals_same : state_persons c.schema c.spine (count_at c.tables) ≡ state_counts v.spine v.records
   totals_same =
-      ap (λ s. totals_of s c.spine (count_at c.tables)) is.schema
-      ∙ ap (λ sp. totals_of v.schema sp (count_at c.tables)) is.spine
+      ap (λ s. state_persons s c.spine (count_at c.tables)) is.schema
+      ∙ ap (λ sp. state_persons v.schema sp (count_at c.tables)) is.spine
       ∙ map_same _ _ (units_at v.spine 1) (each_unit _ v.spine 1 is.tables.persons)
 
-  tells_same : (m : List ℤ) (taken : ℕ) (a : Answer) → Tells c.schema c.spine m (totals_of c.schema c.spine (count_at c.tables)) taken a → Tells v.schema v.spine m (state_counts v.spine v.records) taken a
+  tells_same : (m : List ℤ) (taken : ℕ) (a : Answer) → Tells c.schema c.spine m (state_persons c.schema c.spine (count_at c.tables)) taken a → Tells v.schema v.spine m (state_counts v.spine v.records) taken a
   tells_same m taken a tells =
       subst (λ totals. Tells v.schema v.spine m totals taken a) totals_same
-      (subst (λ sp. Tells v.schema sp m (totals_of c.schema c.spine (count_at c.tables)) taken a) is.spine
-      (subst (λ s. Tells s c.spine m (totals_of c.schema c.spine (count_at c.tables)) taken a) is.schema tells))
+      (subst (λ sp. Tells v.schema sp m (state_persons c.schema c.spine (count_at c.tables)) taken a) is.spine
+      (subst (λ s. Tells s c.spine m (state_persons c.schema c.spine (count_at c.tables)) taken a) is.schema tells))
 
   pub measures : (a : Answer) → MeasuresWith c (noise_words c.noise) a → IsMeasured v a
   measures a with_words = record {

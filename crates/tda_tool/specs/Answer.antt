@@ -13,7 +13,7 @@ use Rattle.tda_invar.specs.Totals.{totals_text}
 use Rattle.tda_ledger.specs.LedgerText.{ledger_text}
 use Rattle.tda_places.specs.Measurements.{measurements_text}
 use Rattle.tda_out.specs.Counts.{count_at, AreCountsOf}
-use Rattle.tda_hist.specs.TrueTable.{totals_of}
+use Rattle.tda_hist.specs.TrueTable.{state_persons}
 use Rattle.tda_measure.specs.Measured.{AreMeasured, HaveFewPersons}
 use Rattle.tda_measure.specs.Noise.{variances_of, IsDetermined, IsNoise, NoiseStops}
 use Rattle.tda_measure.specs.declared.stop.MeasureStop.{MeasureStop}
@@ -97,7 +97,7 @@ pub record MeasuresWith (c : Counted) (words : List ℕ) (a : Answer) : Type 0 w
   pub taken : ℕ
   pub measured : AreMeasured c.schema c.spine (count_at c.tables) words measurements rest
   pub taken_are : taken + length rest ≡ length words
-  pub tells : Tells c.schema c.spine measurements (totals_of c.schema c.spine (count_at c.tables)) taken a
+  pub tells : Tells c.schema c.spine measurements (state_persons c.schema c.spine (count_at c.tables)) taken a
 
 -- the noise on these words stops, with this status
 pub record StopsWith (s : Schema) (sp : Spine) (words : List ℕ) (status : ℕ) (a : Answer) : Type 0 where
@@ -122,7 +122,7 @@ pub record CanBeMeasured (c : Counted) : Type 0 where
   pub belong : c.spine.depth ≡ length c.schema.levels
   pub sized : AreCountsOf c.schema c.spine c.tables
   pub few : HaveFewPersons c.schema c.spine (count_at c.tables)
-  pub few_in_states : sum (totals_of c.schema c.spine (count_at c.tables)) ≤ persons_limit
+  pub few_in_states : sum (state_persons c.schema c.spine (count_at c.tables)) ≤ persons_limit
   pub noise : IsSource c.noise
 
 -- what is measured of a survey

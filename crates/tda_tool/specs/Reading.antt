@@ -12,7 +12,7 @@ use Rattle.tda_invar.specs.Known.{JoinedLists, known, join_due}
 use Rattle.tda_records.specs.Records.{AreRecordsOf}
 use Rattle.tda_records.specs.declared.records.Record.{Record}
 use Rattle.tda_out.specs.Counts.{Counts, count_at, counts_of, AreCountsOf}
-use Rattle.tda_hist.specs.TrueTable.{lives_in, true_count, totals_of}
+use Rattle.tda_hist.specs.TrueTable.{lives_in, true_count, state_persons}
 use Rattle.tda_words.specs.Words.{words_of, stream_words}
 use Rattle.tda_measure.specs.Measured.{HaveFewPersons}
 use Rattle.tda_tool.specs.Measuring.{Survey}
@@ -180,7 +180,7 @@ pub record AreTrueCounts (s : Schema) (sp : Spine) (r : List Record) (counts : C
   pub sized : AreCountsOf s sp counts
   pub persons : (u : ℕ) → IsUnit sp u → persons_in s (count_at counts u) ≡ count_by (lives_in sp u) r
   pub few : HaveFewPersons s sp (count_at counts)
-  pub few_in_states : sum (totals_of s sp (count_at counts)) ≤ persons_limit
+  pub few_in_states : sum (state_persons s sp (count_at counts)) ≤ persons_limit
 
 -- what the file of records gives beside the facilities
 abbrev pub GivesTables : List (List ℕ) → Base → Option Shelf → Result Counts Stop → Type 0

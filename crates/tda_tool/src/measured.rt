@@ -6,7 +6,7 @@ ghost use Rattle.tda_schema.specs.Shares.{frac_of, spent_of};
 ghost use Rattle.tda_invar.specs.Totals.{totals_text};
 ghost use Rattle.tda_ledger.specs.LedgerText.{ledger_text};
 ghost use Rattle.tda_out.specs.Counts.{count_at, AreCountsOf};
-ghost use Rattle.tda_hist.specs.TrueTable.{totals_of};
+ghost use Rattle.tda_hist.specs.TrueTable.{state_persons};
 ghost use Rattle.tda_places.specs.Measurements.{measurements_text, AreMeasurementsOf};
 ghost use Rattle.tda_places.specs.Places.{places_of};
 ghost use Rattle.tda_measure.specs.Noise.{variances_of, IsDetermined, IsNoise};
@@ -93,8 +93,8 @@ fn measurements_output(
 // The file of the states' totals.
 fn totals_output(alloc: Global, counted: &Counted) -> Result<Output, NoMemory>
     requires tables { AreCountsOf counted.now.schema counted.now.spine counted.now.tables }
-    requires few { sum (totals_of counted.now.schema counted.now.spine (count_at counted.now.tables)) ≤ persons_limit }
-    ensures { IfOk result (IsOutput (codes "totals") (totals_text counted.now.spine (totals_of counted.now.schema counted.now.spine (count_at counted.now.tables)))) }
+    requires few { sum (state_persons counted.now.schema counted.now.spine (count_at counted.now.tables)) ≤ persons_limit }
+    ensures { IfOk result (IsOutput (codes "totals") (totals_text counted.now.spine (state_persons counted.now.schema counted.now.spine (count_at counted.now.tables)))) }
 {
     let totals = state_totals(alloc, &counted.schema, &counted.spine, &counted.tables)?;
     let mut text = Vec::new(alloc);
@@ -143,9 +143,9 @@ fn done(alloc: Global, counted: &Counted, m: &Measurements, taken: u64) -> Resul
     requires belong { counted.now.spine.depth ≡ length counted.now.schema.levels }
     requires measured { AreMeasurementsOf counted.now.schema counted.now.spine m.now }
     requires tables { AreCountsOf counted.now.schema counted.now.spine counted.now.tables }
-    requires few { sum (totals_of counted.now.schema counted.now.spine (count_at counted.now.tables)) ≤ persons_limit }
+    requires few { sum (state_persons counted.now.schema counted.now.spine (count_at counted.now.tables)) ≤ persons_limit }
     ensures cause { IfOk result (λ a. a.cause ≡ Cause.Done) }
-    ensures made { IfOk result (Tells counted.now.schema counted.now.spine m.now (totals_of counted.now.schema counted.now.spine (count_at counted.now.tables)) taken) }
+    ensures made { IfOk result (Tells counted.now.schema counted.now.spine m.now (state_persons counted.now.schema counted.now.spine (count_at counted.now.tables)) taken) }
 {
     let mut outputs = Vec::new(alloc);
     outputs.push(measurements_output(alloc, counted, m)?)?;

@@ -4,7 +4,7 @@ use Rattle.tda_model.specs.Groups.{class_cells}
 use Rattle.tda_out.specs.Counts.{count_at}
 use Rattle.tda_schema.specs.Parts.{holds}
 use Rattle.tda_schema.specs.Stated.{query_at}
-use Rattle.tda_hist.specs.TrueTable.{class_count, class_sum}
+use Rattle.tda_hist.specs.TrueTable.{class_persons, class_sum}
 use Rattle.tda_hist.proofs.ClassCells.{over_whole, class_at, class_sum_by}
 use Rattle.tda_hist.proofs.Counted.{counted_class}
 use Rattle.tda_hist.proofs.KindCells.{more_from}
@@ -52,6 +52,6 @@ returns c =
       value = sum_is ∙ ap (λ l. class_sum s (query_at s l c.args.place.query) x first) level;
       persons = λ records is.
           sum_is ∙ counted_class s c.args.spine.now q whole records c.args.tables.now is c.args.place.unit first c.requires.place.unit
-          ∙ ap (λ l. class_count s c.args.spine.now (query_at s l c.args.place.query) records c.args.place.unit first) level;
+          ∙ ap (λ l. class_persons s c.args.spine.now (query_at s l c.args.place.query) records c.args.place.unit first) level;
       limit = omega (arith, c.loop-cell.invariant.limit, all, c.cells-cell-end.ensures.limits.cells);
     }

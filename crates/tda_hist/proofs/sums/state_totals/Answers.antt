@@ -7,7 +7,7 @@ use Rattle.tda_model.specs.Bounds.{persons_limit}
 use Rattle.tda_out.specs.Counts.{count_at}
 use Rattle.tda_invar.specs.Totals.{AreTotalsOf}
 use Rattle.tda_invar.proofs.UnitLemmas.{units_within}
-use Rattle.tda_hist.specs.TrueTable.{totals_of}
+use Rattle.tda_hist.specs.TrueTable.{state_persons}
 use Rattle.tda_hist.proofs.sums.state_totals.Goals as goal
 
 pub persons_in-requires-clause-unit : goal.persons_in-requires-clause-unit
@@ -25,10 +25,10 @@ loop-state-preserved c =
     ∙ sym (map_more f states c.loop-state.state-index 0 below)
 
 -- the numbers that are gathered are the totals, one for each state
-gathered : (s : Schema) (sp : Spine) (x : Tables) (k : ℕ) → length (units_at sp 1) ≤ k → (numbers : List ℕ) → numbers ≡ map (λ st. persons_in s (x st)) (take k (units_at sp 1)) → numbers ≡ totals_of s sp x
+gathered : (s : Schema) (sp : Spine) (x : Tables) (k : ℕ) → length (units_at sp 1) ≤ k → (numbers : List ℕ) → numbers ≡ map (λ st. persons_in s (x st)) (take k (units_at sp 1)) → numbers ≡ state_persons s sp x
 gathered s sp x k all numbers is = is ∙ ap (map (λ st. persons_in s (x st))) (take_all k (units_at sp 1) all)
 
-belong : (s : Schema) (sp : Spine) (x : Tables) → sum (totals_of s sp x) ≤ persons_limit → (numbers : List ℕ) → numbers ≡ totals_of s sp x → AreTotalsOf sp numbers
+belong : (s : Schema) (sp : Spine) (x : Tables) → sum (state_persons s sp x) ≤ persons_limit → (numbers : List ℕ) → numbers ≡ state_persons s sp x → AreTotalsOf sp numbers
 belong s sp x few numbers is = record { size = ap length is ∙ length-map (units_at sp 1) (λ st. persons_in s (x st)); few = rw is few }
 
 pub from_list-requires : goal.from_list-requires
