@@ -5,7 +5,7 @@ use Rattle.std.proofs.lemmas.Option.{slice_get-map, slice_get_within, get_or_fro
 use Rattle.tda_io.specs.Outside.{Shelf, asks}
 use Rattle.tda_tool.specs.Words.{reads_of, read_names, pairs_after, value_or_empty}
 use Rattle.tda_tool.specs.Outcome.{AsksPrefix, asks_all}
-use Rattle.tda_tool.specs.Reading.{name_of, number_of, path_of, IsRead}
+use Rattle.tda_tool.specs.Reading.{name_of, place_of_file, path_of, IsRead}
 use Rattle.tda_tool.specs.declared.reading.File.{File}
 
 -- the first n of these names were asked for
@@ -38,17 +38,17 @@ asks_more names n old mid new h before is = record {
 pub path_at : (words : List (List ℕ)) (f : File) → IsRead words f → path_of words f ≡ value_or_empty (pairs_after words) (name_of f)
 path_at words f is =
     let value = value_or_empty (pairs_after words) in
-    get_or_from_slice_get (reads_of words) (number_of f) (value (name_of f)) [] (slice_get-map value (read_names words) (number_of f) ∙ ap (option_map value) is)
+    get_or_from_slice_get (reads_of words) (place_of_file f) (value (name_of f)) [] (slice_get-map value (read_names words) (place_of_file f) ∙ ap (option_map value) is)
 
 -- and is one of those that it reads
-pub file_within : (words : List (List ℕ)) (f : File) → IsRead words f → number_of f < length (reads_of words)
+pub file_within : (words : List (List ℕ)) (f : File) → IsRead words f → place_of_file f < length (reads_of words)
 file_within words f is =
     let same : length (reads_of words) ≡ length (read_names words) = length-map (read_names words) (value_or_empty (pairs_after words)) in
-    omega (arith, slice_get_within (read_names words) (number_of f) (name_of f) is, same)
+    omega (arith, slice_get_within (read_names words) (place_of_file f) (name_of f) is, same)
 
 -- one more file of the command
 pub file_asks : (words : List (List ℕ)) (f : File) (old mid new : Option Shelf) → IsRead words f
-    → AsksFirst (reads_of words) (number_of f) old mid → new ≡ option_map (asks (path_of words f)) mid → AsksFirst (reads_of words) (number_of f + 1) old new
+    → AsksFirst (reads_of words) (place_of_file f) old mid → new ≡ option_map (asks (path_of words f)) mid → AsksFirst (reads_of words) (place_of_file f + 1) old new
 file_asks words f old mid new is before asked = asks_more _ _ old mid new (file_within words f is) before asked
 
 -- all names are the first ones of them

@@ -8,7 +8,7 @@ use Rattle.tda_tool.specs.Attained.{Inputs}
 use Rattle.tda_tool.specs.Words.{command_of, form_of, form_in, source_of}
 use Rattle.tda_tool.specs.Ending.{Ending}
 use Rattle.tda_tool.specs.Due.{Given, base_from, totals_from, inputs_from}
-use Rattle.tda_tool.specs.Reading.{name_of, number_of, path_of, IsRead, GivesInvariants, AsksFile, Gathers, AsksFiles}
+use Rattle.tda_tool.specs.Reading.{name_of, place_of_file, path_of, IsRead, GivesInvariants, AsksFile, Gathers, AsksFiles}
 use Rattle.tda_tool.specs.declared.base.Base.{Base}
 use Rattle.tda_tool.specs.declared.words.Command.{Command}
 use Rattle.tda_tool.specs.declared.reading.File.{File}
@@ -18,8 +18,8 @@ use Rattle.tda_tool.proofs.Asked.{file_within}
 use Rattle.tda_tool.proofs.Stops.{HasRead, read_on, halted, part_read, asks_file_stopped, same_gathers}
 
 -- a file that stands at its place in the command's form is read
-pub reads_at : (words : List (List ℕ)) (f : File) (c : Command) → command_of words ≡ Some c → slice_get (form_of (source_of words) c).reads (number_of f) ≡ Some (name_of f) → IsRead words f
-reads_at words f c is there = ap (λ o. slice_get (form_in words o).reads (number_of f)) is ∙ there
+pub reads_at : (words : List (List ℕ)) (f : File) (c : Command) → command_of words ≡ Some c → slice_get (form_of (source_of words) c).reads (place_of_file f) ≡ Some (name_of f) → IsRead words f
+reads_at words f c is there = ap (λ o. slice_get (form_in words o).reads (place_of_file f)) is ∙ there
 
 -- the inputs with totals of the base's schema, spine and facilities
 abbrev pub inputs_with : Base → List ℕ → Inputs

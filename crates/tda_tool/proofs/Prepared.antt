@@ -10,7 +10,7 @@ use Rattle.tda_tool.specs.Words.{command_of, form_in, reads_of, pairs_after, val
 use Rattle.tda_tool.specs.Ending.{Ending}
 use Rattle.tda_tool.specs.Due.{Given, given_by, failing_at, inputs_from, survey_from, task_by, due_task}
 use Rattle.tda_tool.specs.Outcome.{AsksPrefix, asks_all}
-use Rattle.tda_tool.specs.Reading.{number_of, Gathers, AsksFiles, CountsRead, Surveys, IsCounted, noise_words}
+use Rattle.tda_tool.specs.Reading.{place_of_file, Gathers, AsksFiles, CountsRead, Surveys, IsCounted, noise_words}
 use Rattle.tda_tool.specs.Answer.{Suits, SuitsBy, AnswersStop, AnswersBy, AnswersNoise, AsksBy, AsksPrepared, CountsBy, CountsPrepared, IsFitted, HasSurvey, StopsWith}
 use Rattle.tda_tool.specs.declared.words.Command.{Command}
 use Rattle.tda_tool.specs.declared.words.Command.TheVariants as command
@@ -51,7 +51,7 @@ module _ {X : Type 0} (words : List (List ℕ)) (n : ℕ) (from : Given → Resu
   })
   stop_suits shelf (stop.Read f) a gives answers = subst (λ k. SuitsBy k words shelf a) (sym answers.0) (record {
     reads = gives.0;
-    due = fails (number_of f) shelf _ gives.1;
+    due = fails (place_of_file f) shelf _ gives.1;
     alone = answers.1;
   })
   stop_suits shelf stop.NoMemory a gives answers = absurd answers

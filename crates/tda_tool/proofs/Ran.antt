@@ -19,7 +19,7 @@ use Rattle.tda_tool.specs.Words.{command_of, form_in, reads_of, writes_of, read_
 use Rattle.tda_tool.specs.Ending.{Ending, words_ending, refused_ending, read_ending, fit_ending}
 use Rattle.tda_tool.specs.Due.{Given, Task, Fits, Measures, EndsBy, Due, IsDue, IsDueStatus, task_of, task_by, due_task, inputs_from, survey_from, given_by, failing_at}
 use Rattle.tda_tool.specs.Outcome.{IsSettled, whole, asks_all, Leaves, LeavesReport, LeavesAll, ReportsDue, FitWrote, MeasureWrote, NoiseStopped, FileRefused, ReadFailed, AsksPrefix, BeginsPrefix, BeginsWhenDue}
-use Rattle.tda_tool.specs.Reading.{name_of, number_of, IsRead}
+use Rattle.tda_tool.specs.Reading.{name_of, place_of_file, IsRead}
 use Rattle.tda_tool.specs.Answer.{status_by, Suits, SuitsBy, IsDone, HasInputs, HasSurvey, IsFitted, IsMeasured, StopsWith, RefusesFile, FailsAt, ReportsAlone, WritesNames, Asks, AsksBy, CountsBy, files_of, target_of, targets_of, status_of}
 use Rattle.tda_tool.specs.declared.words.Command.{Command}
 use Rattle.tda_tool.specs.declared.words.Command.TheVariants as command
@@ -292,13 +292,13 @@ all_written words shelf (Err fault_out.NoMemory) old new suits left zero = cc ze
 
 -- ---- which words, which file, which place
 
-name_at : (words : List (List ℕ)) (f : File) → IsRead words f → slice_index_or (read_names words) (number_of f) [] ≡ name_of f
-name_at words f is = get_or_from_slice_get (read_names words) (number_of f) (name_of f) [] is
+name_at : (words : List (List ℕ)) (f : File) → IsRead words f → slice_index_or (read_names words) (place_of_file f) [] ≡ name_of f
+name_at words f is = get_or_from_slice_get (read_names words) (place_of_file f) (name_of f) [] is
 
 refused_file : (words : List (List ℕ)) (f : File) (shelf shelf_new : Option Shelf) (a : Answer) (old new : Option Tray) → RefusesFile words shelf f a → AsksBy (cause.Refused f) words shelf shelf_new
     → Leaves (files_of words a) old new → FileRefused words shelf shelf_new old new
 refused_file words f shelf shelf_new a old new suits asked left = record {
-  file = number_of f;
+  file = place_of_file f;
   within = file_within words f suits.reads;
   asked = asked;
   fault = suits.fault;
@@ -325,10 +325,10 @@ refused words (Err fault_out.NoMemory) shelf shelf_new old new suits asked left 
 read_file : (words : List (List ℕ)) (f : File) (shelf shelf_new : Option Shelf) (a : Answer) (old new : Option Tray) → FailsAt words shelf f a → AsksBy (cause.Read f) words shelf shelf_new
     → Leaves (files_of words a) old new → ReadFailed words shelf shelf_new old new
 read_file words f shelf shelf_new a old new suits asked left = record {
-  file = number_of f;
+  file = place_of_file f;
   within = file_within words f suits.reads;
   asked = asked;
-  accepted = subst (λ name. IfSome shelf (λ s. task_by words (failing_at (number_of f) (given_by words s.holds)) ≡ Err (read_ending name))) (sym (name_at words f suits.reads)) suits.due;
+  accepted = subst (λ name. IfSome shelf (λ s. task_by words (failing_at (place_of_file f) (given_by words s.holds)) ≡ Err (read_ending name))) (sym (name_at words f suits.reads)) suits.due;
   written = subst (λ name. LeavesReport (read_ending name).report old new) (sym (name_at words f suits.reads)) (report_alone words _ a old new suits.alone left);
 }
 
@@ -393,10 +393,10 @@ stopped words (Err fault_out.NoMemory) shelf shelf_new old new suits asked left 
 pub asks_nothing : (names : List (List ℕ)) (old new : Option Shelf) → new ≡ old → AsksPrefix names old new
 asks_nothing names old new same = subst (AsksPrefix names old) (sym same) (asks_first names 0 old old (asks_no_name names old))
 
-pub asks_up_to : (words : List (List ℕ)) (f : File) (old new : Option Shelf) → IsRead words f → new ≡ option_map (asks_all (take (number_of f + 1) (reads_of words))) old → AsksPrefix (reads_of words) old new
+pub asks_up_to : (words : List (List ℕ)) (f : File) (old new : Option Shelf) → IsRead words f → new ≡ option_map (asks_all (take (place_of_file f + 1) (reads_of words))) old → AsksPrefix (reads_of words) old new
 asks_up_to words f old new reads asked =
     let within = file_within words f reads in
-    record { count = number_of f + 1; within = omega arith; asked = asked }
+    record { count = place_of_file f + 1; within = omega arith; asked = asked }
 
 pub asks_by : (k : Cause) (words : List (List ℕ)) (shelf old new : Option Shelf) (a : Answer) → SuitsBy k words shelf a → AsksBy k words old new → AsksPrefix (reads_of words) old new
 asks_by cause.Done words shelf old new a suits asked = asks_whole _ old new asked

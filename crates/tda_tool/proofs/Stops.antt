@@ -6,7 +6,7 @@ use Rattle.tda_io.specs.Outside.{Shelf, asks}
 use Rattle.tda_tool.specs.Words.{reads_of}
 use Rattle.tda_tool.specs.Ending.{Ending, read_ending, refused_ending}
 use Rattle.tda_tool.specs.Due.{Given, given_by, failing_at}
-use Rattle.tda_tool.specs.Reading.{name_of, number_of, limit_of, path_of, IsRead, GivesBy, GivesFile, IsStop, Agree, Gathers, AsksFile, AsksFiles, CountsRead}
+use Rattle.tda_tool.specs.Reading.{name_of, place_of_file, limit_of, path_of, IsRead, GivesBy, GivesFile, IsStop, Agree, Gathers, AsksFile, AsksFiles, CountsRead}
 use Rattle.tda_tool.specs.declared.reading.File.{File}
 use Rattle.tda_tool.specs.declared.reading.Stop.{Stop}
 use Rattle.tda_tool.specs.declared.reading.Stop.TheVariants as stop
@@ -28,7 +28,7 @@ From A = Option (List ℕ) → Result A Ending
 
 -- the result of a judgement goes on
 abbrev pub goes_on : {A X : Type 0} → File → From A → (A → Given → Result X Ending) → Given → Result X Ending
-goes_on f from next given = from (given (number_of f)) >>= (λ y. next y given)
+goes_on f from next given = from (given (place_of_file f)) >>= (λ y. next y given)
 
 module _ {X : Type 0} (words : List (List ℕ)) (whole : Given → Result X Ending) where
   -- where the first n reads gave what the shelf holds, what is gathered is what is due from there on
@@ -48,11 +48,11 @@ module _ {X : Type 0} (words : List (List ℕ)) (whole : Given → Result X Endi
   no_file old = record { asked = asks_no_name (reads_of words) old; come = begin old }
 
   module _ {A : Type 0} (f : File) (from : From A) (next : A → Given → Result X Ending) where
-    come_on : (shelf : Option Shelf) (x : A) → HasCome shelf (number_of f) (goes_on f from next) → GivesBy words f from shelf (Ok x) → HasCome shelf (number_of f + 1) (next x)
+    come_on : (shelf : Option Shelf) (x : A) → HasCome shelf (place_of_file f) (goes_on f from next) → GivesBy words f from shelf (Ok x) → HasCome shelf (place_of_file f + 1) (next x)
     come_on None x come gives = tt
     come_on (Some h) x come gives = λ given same.
         come given (λ m l. same m (omega arith))
-        ∙ ap (λ r. r >>= (λ y. next y given)) (ap from (same (number_of f) (omega arith)) ∙ gives)
+        ∙ ap (λ r. r >>= (λ y. next y given)) (ap from (same (place_of_file f) (omega arith)) ∙ gives)
 
     -- asking changes nothing of what files are
     given_before : (n : ℕ) (old new : Option Shelf) (r : Result A Stop) → AsksFirst (reads_of words) n old new → GivesBy words f from new r → GivesBy words f from old r
@@ -66,15 +66,15 @@ module _ {X : Type 0} (words : List (List ℕ)) (whole : Given → Result X Endi
     given_before n (Some h) new (Err stop.NoMemory) asked given = tt
 
     -- one more file is accepted
-    pub read_on : (old mid new : Option Shelf) (x : A) → IsRead words f → HasRead old mid (number_of f) (goes_on f from next)
-        → GivesBy words f from mid (Ok x) → new ≡ option_map (asks (path_of words f)) mid → HasRead old new (number_of f + 1) (next x)
+    pub read_on : (old mid new : Option Shelf) (x : A) → IsRead words f → HasRead old mid (place_of_file f) (goes_on f from next)
+        → GivesBy words f from mid (Ok x) → new ≡ option_map (asks (path_of words f)) mid → HasRead old new (place_of_file f + 1) (next x)
     read_on old mid new x reads before gives asked = record {
       asked = file_asks words f old mid new reads before.asked asked;
-      come = come_on old x before.come (given_before (number_of f) old mid (Ok x) before.asked gives);
+      come = come_on old x before.come (given_before (place_of_file f) old mid (Ok x) before.asked gives);
     }
 
     -- a file that stops the reading
-    gathers_none : (n : ℕ) (shelf : Option Shelf) (e : Stop) → from None ≡ Err (read_ending (name_of f)) → IsRead words f → HasCome shelf (number_of f) (goes_on f from next) → GivesBy words f from shelf (Err e) → Gathers words n whole shelf (Err e)
+    gathers_none : (n : ℕ) (shelf : Option Shelf) (e : Stop) → from None ≡ Err (read_ending (name_of f)) → IsRead words f → HasCome shelf (place_of_file f) (goes_on f from next) → GivesBy words f from shelf (Err e) → Gathers words n whole shelf (Err e)
     gathers_none n shelf stop.NoMemory none reads come given = tt
     gathers_none n None (stop.Refused r) none reads come given = (subst (IsRead words) (sym given.0) reads, given.1, tt)
     gathers_none n None (stop.Read g) none reads come given = (subst (IsRead words) (sym given) reads, tt)
@@ -87,35 +87,35 @@ module _ {X : Type 0} (words : List (List ℕ)) (whole : Given → Result X Endi
     )
     gathers_none n (Some h) (stop.Read g) none reads come given = (
       subst (IsRead words) (sym given) reads,
-      subst (λ k. whole (failing_at (number_of k) (given_by words h.holds)) ≡ Err (read_ending (name_of k))) (sym given) fails,
+      subst (λ k. whole (failing_at (place_of_file k) (given_by words h.holds)) ≡ Err (read_ending (name_of k))) (sym given) fails,
     )
       where
         failing : Given
-        failing = failing_at (number_of f) (given_by words h.holds)
+        failing = failing_at (place_of_file f) (given_by words h.holds)
 
-        fails_later : (m : ℕ) → m < number_of f → failing m ≡ given_by words h.holds m
-        fails_later m l = ap (λ b. cond b None (given_by words h.holds m)) (ne_eqb m (number_of f) (λ e. omega arith))
+        fails_later : (m : ℕ) → m < place_of_file f → failing m ≡ given_by words h.holds m
+        fails_later m l = ap (λ b. cond b None (given_by words h.holds m)) (ne_eqb m (place_of_file f) (λ e. omega arith))
 
-        fails_here : failing (number_of f) ≡ None
-        fails_here = ap (λ b. cond b None (given_by words h.holds (number_of f))) (eq-eqb (number_of f) (number_of f) refl)
+        fails_here : failing (place_of_file f) ≡ None
+        fails_here = ap (λ b. cond b None (given_by words h.holds (place_of_file f))) (eq-eqb (place_of_file f) (place_of_file f) refl)
 
         fails : whole failing ≡ Err (read_ending (name_of f))
         fails = come failing fails_later ∙ ap (λ o. from o >>= (λ y. next y failing)) fails_here ∙ ap (λ r. r >>= (λ y. next y failing)) none
 
     -- the names asked for where a file stops the reading
-    asks_none_more : (n : ℕ) (old mid new : Option Shelf) (e : Stop) → IsRead words f → AsksFirst (reads_of words) (number_of f) old mid
+    asks_none_more : (n : ℕ) (old mid new : Option Shelf) (e : Stop) → IsRead words f → AsksFirst (reads_of words) (place_of_file f) old mid
         → GivesBy words f from mid (Err e) → AsksFile {T = A} words f mid new (Err e) → AsksFiles {X = X} words n old new (Err e)
     asks_none_more n old mid new (stop.Refused r) reads before given asked = rw given.0 (file_asks words f old mid new reads before asked).asked
     asks_none_more n old mid new (stop.Read g) reads before given asked = rw given (file_asks words f old mid new reads before asked).asked
     asks_none_more n old mid new stop.NoMemory reads before given (inl asked) = asks_first _ _ old new (file_asks words f old mid new reads before asked)
     asks_none_more n old mid new stop.NoMemory reads before given (inr same) =
-        record { count = number_of f; within = before.within; asked = same ∙ before.asked }
+        record { count = place_of_file f; within = before.within; asked = same ∙ before.asked }
 
     -- what a reading answers that ends with this stop
-    pub halted : (n : ℕ) (old mid new : Option Shelf) (e : Stop) → from None ≡ Err (read_ending (name_of f)) → IsRead words f → HasRead old mid (number_of f) (goes_on f from next)
+    pub halted : (n : ℕ) (old mid new : Option Shelf) (e : Stop) → from None ≡ Err (read_ending (name_of f)) → IsRead words f → HasRead old mid (place_of_file f) (goes_on f from next)
         → GivesBy words f from mid (Err e) → AsksFile {T = A} words f mid new (Err e) → Gathers words n whole old (Err e) × AsksFiles {X = X} words n old new (Err e)
     halted n old mid new e none reads before gives asked = (
-      gathers_none n old e none reads before.come (given_before (number_of f) old mid (Err e) before.asked gives),
+      gathers_none n old e none reads before.come (given_before (place_of_file f) old mid (Err e) before.asked gives),
       asks_none_more n old mid new e reads before.asked gives asked,
     )
 

@@ -14,7 +14,7 @@ use Rattle.tda_tool.specs.Words.{command_of, measure_form, source_of}
 use Rattle.tda_tool.specs.Ending.{Ending, judged_file}
 use Rattle.tda_tool.specs.Due.{Given, base_from, records_from, survey_from}
 use Rattle.tda_tool.specs.Refusal.{records_text, hist_text}
-use Rattle.tda_tool.specs.Reading.{name_of, number_of, path_of, IsRead, GivesBy, GivesFile, GivesTables, GivesNoise, Judges, AreTrueCounts, AsksFile, Gathers, AsksFiles, noise_words, source_path, IsCounted, Surveys}
+use Rattle.tda_tool.specs.Reading.{name_of, place_of_file, path_of, IsRead, GivesBy, GivesFile, GivesTables, GivesNoise, Judges, AreTrueCounts, AsksFile, Gathers, AsksFiles, noise_words, source_path, IsCounted, Surveys}
 use Rattle.tda_tool.specs.declared.base.Base.{Base}
 use Rattle.tda_tool.specs.declared.counted.Counted.{Counted}
 use Rattle.tda_tool.specs.declared.noise.Noise.{Noise}
@@ -30,7 +30,7 @@ use Rattle.tda_tool.proofs.Agreed.{same_due}
 use Rattle.tda_tool.proofs.Fitted.{reads_at}
 
 -- the file that words come from is read
-source_at : (from : Source) → slice_get (measure_form from).reads (number_of (source_path from)) ≡ Some (name_of (source_path from))
+source_at : (from : Source) → slice_get (measure_form from).reads (place_of_file (source_path from)) ≡ Some (name_of (source_path from))
 source_at source.Words = refl
 source_at source.Seed = refl
 

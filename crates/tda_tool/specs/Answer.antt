@@ -18,13 +18,13 @@ use Rattle.tda_measure.specs.Measured.{AreMeasured, HaveFewPersons}
 use Rattle.tda_measure.specs.Noise.{variances_of, IsDetermined, IsNoise, NoiseStops}
 use Rattle.tda_measure.specs.declared.stop.MeasureStop.{MeasureStop}
 use Rattle.tda_tool.specs.Attained.{Inputs, IsAttained}
-use Rattle.tda_tool.specs.Measuring.{Survey, state_counts, stop_ending, measured_ending, AreMeasurementsOf}
+use Rattle.tda_tool.specs.Measuring.{Survey, state_counts, stop_ending, measured_ending, MeasuresSurvey}
 use Rattle.tda_tool.specs.Words.{command_of, pairs_after, value_or_empty, reads_of, write_names, dash}
 use Rattle.tda_tool.specs.Ending.{Ending, words_ending, refused_ending, read_ending, fit_ending}
 use Rattle.tda_tool.specs.Due.{inputs_from, survey_from, given_by, failing_at, task_by, due_task}
 use Rattle.tda_tool.specs.Outcome.{whole, asks_all, AsksPrefix}
 use Rattle.tda_tool.specs.Refusal.{IsFaultText}
-use Rattle.tda_tool.specs.Reading.{name_of, number_of, IsRead, IsSource}
+use Rattle.tda_tool.specs.Reading.{name_of, place_of_file, IsRead, IsSource}
 use Rattle.tda_tool.specs.declared.words.Command.{Command}
 use Rattle.tda_tool.specs.declared.words.Command.TheVariants as command
 use Rattle.tda_tool.specs.declared.reading.File.{File}
@@ -129,7 +129,7 @@ pub record CanBeMeasured (c : Counted) : Type 0 where
 pub record IsMeasured (v : Survey) (a : Answer) : Type 0 where
   pub measurements : List ℤ
   pub taken : ℕ
-  pub measured : AreMeasurementsOf v measurements taken
+  pub measured : MeasuresSurvey v measurements taken
   pub tells : Tells v.schema v.spine measurements (state_counts v.spine v.records) taken a
 
 -- the inputs, or the survey, that the inbox holds
@@ -158,7 +158,7 @@ pub record RefusesFile (words : List (List ℕ)) (shelf : Option Shelf) (f : Fil
 -- a file can't be read
 pub record FailsAt (words : List (List ℕ)) (shelf : Option Shelf) (f : File) (a : Answer) : Type 0 where
   pub reads : IsRead words f
-  pub due : IfSome shelf (λ s. task_by words (failing_at (number_of f) (given_by words s.holds)) ≡ Err (read_ending (name_of f)))
+  pub due : IfSome shelf (λ s. task_by words (failing_at (place_of_file f) (given_by words s.holds)) ≡ Err (read_ending (name_of f)))
   pub alone : ReportsAlone (read_ending (name_of f)) a
 
 -- the answer is the one to what the words ask for and the inbox holds, by its cause
@@ -182,8 +182,8 @@ AnswersStop stop.NoMemory a = ⊥
 -- each file was asked for once, in order, up to the one that stops
 abbrev pub AsksBy : Cause → List (List ℕ) → Option Shelf → Option Shelf → Type 0
 AsksBy cause.Words words old new = new ≡ old
-AsksBy (cause.Refused f) words old new = new ≡ option_map (asks_all (take (number_of f + 1) (reads_of words))) old
-AsksBy (cause.Read f) words old new = new ≡ option_map (asks_all (take (number_of f + 1) (reads_of words))) old
+AsksBy (cause.Refused f) words old new = new ≡ option_map (asks_all (take (place_of_file f + 1) (reads_of words))) old
+AsksBy (cause.Read f) words old new = new ≡ option_map (asks_all (take (place_of_file f + 1) (reads_of words))) old
 AsksBy _ words old new = new ≡ option_map (asks_all (reads_of words)) old
 
 abbrev pub Asks : List (List ℕ) → Option Shelf → Option Shelf → Answer → Type 0

@@ -73,8 +73,8 @@ pub record MeasureEnds (v : Survey) (e : Ending) : Type 0 where
 abbrev pub state_counts : Spine → List Record → List ℕ
 state_counts sp records = map (λ st. count_by (lives_in sp st) records) (units_at sp 1)
 
--- the measurements: at each place how many persons of the unit have a cell of the class, plus the noise
-pub record AreMeasurementsOf (v : Survey) (m : List ℤ) (taken : ℕ) : Type 0 where
+-- the measurements of a survey: at each place how many persons of the unit have a cell of the class, plus the noise
+pub record MeasuresSurvey (v : Survey) (m : List ℤ) (taken : ℕ) : Type 0 where
   pub rest : List ℕ
   pub measured : AreMeasured v.schema v.spine (true_count v.spine v.records) v.words m rest
   pub taken_are : taken + length rest ≡ length v.words

@@ -10,7 +10,7 @@ use Rattle.tda_places.specs.Measurements.{measurements_text}
 use Rattle.tda_measure.specs.Noise.{variances_of, NoiseStops}
 use Rattle.tda_measure.specs.declared.stop.MeasureStop.{MeasureStop}
 use Rattle.tda_tool.specs.Attained.{Inputs, IsAttained}
-use Rattle.tda_tool.specs.Measuring.{Survey, state_counts, stop_ending, measured_ending, AreMeasurementsOf}
+use Rattle.tda_tool.specs.Measuring.{Survey, state_counts, stop_ending, measured_ending, MeasuresSurvey}
 use Rattle.tda_tool.specs.Words.{command_of, reads_of, writes_of, read_names, dash}
 use Rattle.tda_tool.specs.declared.words.Command.TheVariants.{Measure}
 use Rattle.tda_tool.specs.Refusal.{IsFaultText}
@@ -137,7 +137,7 @@ pub record MeasureWrote (words : List (List ℕ)) (holds : List ℕ → Option (
   pub accepted : survey_from words (given_by words holds) ≡ Ok survey
   pub measurements : List ℤ
   pub taken : ℕ
-  pub measured : AreMeasurementsOf survey measurements taken
+  pub measured : MeasuresSurvey survey measurements taken
   pub written : Leaves
       (whole (slice_index_or (writes_of words) 0 []) (measurements_text survey.schema survey.spine measurements)
       ∷ whole (slice_index_or (writes_of words) 1 []) (totals_text survey.spine (state_counts survey.spine survey.records))

@@ -44,14 +44,14 @@ name_of file.Words = codes "words"
 name_of file.Seed = codes "seed"
 
 -- its place among the files that are read
-abbrev pub number_of : File → ℕ
-number_of file.Schema = 0
-number_of file.Spine = 1
-number_of file.Facilities = 2
-number_of file.Totals = 3
-number_of file.Records = 3
-number_of file.Words = 4
-number_of file.Seed = 4
+abbrev pub place_of_file : File → ℕ
+place_of_file file.Schema = 0
+place_of_file file.Spine = 1
+place_of_file file.Facilities = 2
+place_of_file file.Totals = 3
+place_of_file file.Records = 3
+place_of_file file.Words = 4
+place_of_file file.Seed = 4
 
 -- how many bytes it may have
 abbrev pub limit_of : File → ℕ
@@ -60,11 +60,11 @@ limit_of _ = file_limit
 
 -- the words' command reads the file, at its place
 abbrev pub IsRead : List (List ℕ) → File → Type 0
-IsRead words f = slice_get (read_names words) (number_of f) ≡ Some (name_of f)
+IsRead words f = slice_get (read_names words) (place_of_file f) ≡ Some (name_of f)
 
 -- where the command finds it
 abbrev pub path_of : List (List ℕ) → File → List ℕ
-path_of words f = slice_index_or (reads_of words) (number_of f) []
+path_of words f = slice_index_or (reads_of words) (place_of_file f) []
 
 abbrev pub IsLong : ℕ → Option (List ℕ) → Type 0
 IsLong limit held = (bytes : List ℕ) × (held ≡ Some bytes) × (limit < length bytes)
@@ -141,14 +141,14 @@ Gathers words n from shelf (Ok x) = IfSome shelf (λ s. (given : Given) → Agre
 Gathers words n from shelf (Err (stop.Refused r)) = IsRead words r.file × IsFaultText r.fault.items
     × IfSome shelf (λ s. from (given_by words s.holds) ≡ Err (refused_ending (name_of r.file) r.fault.items))
 Gathers words n from shelf (Err (stop.Read f)) = IsRead words f
-    × IfSome shelf (λ s. from (failing_at (number_of f) (given_by words s.holds)) ≡ Err (read_ending (name_of f)))
+    × IfSome shelf (λ s. from (failing_at (place_of_file f) (given_by words s.holds)) ≡ Err (read_ending (name_of f)))
 Gathers words n from shelf (Err stop.NoMemory) = Unit {0}
 
 -- each of the first n files is asked for once, in order, up to the one that stops
 abbrev pub AsksFiles : {X : Type 0} → List (List ℕ) → ℕ → Option Shelf → Option Shelf → Result X Stop → Type 0
 AsksFiles words n old new (Ok x) = new ≡ option_map (asks_all (take n (reads_of words))) old
-AsksFiles words n old new (Err (stop.Refused r)) = new ≡ option_map (asks_all (take (number_of r.file + 1) (reads_of words))) old
-AsksFiles words n old new (Err (stop.Read f)) = new ≡ option_map (asks_all (take (number_of f + 1) (reads_of words))) old
+AsksFiles words n old new (Err (stop.Refused r)) = new ≡ option_map (asks_all (take (place_of_file r.file + 1) (reads_of words))) old
+AsksFiles words n old new (Err (stop.Read f)) = new ≡ option_map (asks_all (take (place_of_file f + 1) (reads_of words))) old
 AsksFiles words n old new (Err stop.NoMemory) = AsksPrefix (reads_of words) old new
 
 -- ---- what is measured

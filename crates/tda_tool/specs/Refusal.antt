@@ -1,5 +1,5 @@
 -- The texts of faults: a name, and what the fault carries.
-use Rattle.std.specs.Prelude.{codes, ℕ, ◌≡◌, ◌+◌, ◌⊎◌, ◌<◌, List, [], ◌∷◌, ◌++◌, slice_index_or, Some, None}
+use Rattle.std.specs.Prelude.{codes, ℕ, ◌≡◌, ◌≢◌, ◌+◌, ◌⊎◌, ◌<◌, List, [], ◌∷◌, ◌++◌, slice_index_or, Some, None}
 use Rattle.std.specs.Fmt.{decimal}
 use Rattle.tda_model.specs.Schema.{Schema}
 use Rattle.tda_model.specs.Groups.{kind_count}
@@ -134,15 +134,34 @@ pub record IsPair (s : Schema) (sp : Spine) (u k : ℕ) : Type 0 where
   pub unit : IsUnit sp u
   pub kind : k < kind_count s
 
+-- the state that a fault of totals names is the spine's
+abbrev pub NamesState : Spine → TotFault → Type 0
+NamesState sp (totals.Missing state) = IsUnit sp state
+NamesState sp _ = Unit {0}
+
 -- the units that a fault names are the spine's, and the kinds the schema's
 abbrev pub NamesKnown : Schema → Spine → Named → Type 0
-NamesKnown s sp (named.Totals (totals.Missing state)) = IsUnit sp state
-NamesKnown s sp (named.Totals _) = Unit {0}
+NamesKnown s sp (named.Totals fault) = NamesState sp fault
 NamesKnown s sp (named.Join (join.Short state total needed)) = IsUnit sp state
 NamesKnown s sp (named.Join join.NoMemory) = Unit {0}
 NamesKnown s sp (named.Hist (hist.NoFacility block kind)) = IsPair s sp block kind
 NamesKnown s sp (named.Hist (hist.Short block kind found needed)) = IsPair s sp block kind
 
+-- a fault of a file: want of memory is none
+abbrev pub IsPlainFault : Plain → Type 0
+IsPlainFault plain.TooLong = Unit {0}
+IsPlainFault plain.BadLength = Unit {0}
+IsPlainFault (plain.Schema fault) = fault ≢ schema.NoMemory
+IsPlainFault (plain.Spine fault) = fault ≢ spine.NoMemory
+IsPlainFault (plain.Facilities fault) = fault ≢ facilities.NoMemory
+IsPlainFault (plain.Records fault) = fault ≢ records.NoMemory
+
+abbrev pub IsNamedFault : Named → Type 0
+IsNamedFault (named.Totals fault) = fault ≢ totals.NoMemory
+IsNamedFault (named.Join fault) = fault ≢ join.NoMemory
+IsNamedFault (named.Hist fault) = Unit {0}
+
 -- the text of some fault
 abbrev pub IsFaultText : List ℕ → Type 0
-IsFaultText text = ((fault : Plain) × (text ≡ plain_text fault)) ⊎ ((s : Schema) × (sp : Spine) × (fault : Named) × (text ≡ named_text s sp fault))
+IsFaultText text = ((fault : Plain) × (text ≡ plain_text fault) × IsPlainFault fault)
+    ⊎ ((s : Schema) × (sp : Spine) × (fault : Named) × (text ≡ named_text s sp fault) × IsNamedFault fault)

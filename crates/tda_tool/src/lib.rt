@@ -24,4 +24,6 @@ pub use top::tool;
 #[cfg(test)]
 mod measure_tests;
 #[cfg(test)]
+mod samples;
+#[cfg(test)]
 mod tests;

@@ -1,7 +1,10 @@
 // Runs of `measure`.
 ghost use Rattle.std.specs.Prelude.{◌≤◌};
 
-use crate::tests::{CHILDLESS, DORMITORY, FACILITIES, SCHEMA, SPINE, WOMEN, shown, words_of};
+use crate::samples::{
+    CHILDLESS, DORM, DORMITORY, FACILITIES, HOUSES, ONES, RECORDS, SCHEMA, SPINE, WOMEN, shown,
+    words_of,
+};
 use crate::words::judge;
 use std::alloc::Global;
 use std::test::Fail;
@@ -9,18 +12,6 @@ use std::test::Fail;
 // The words of `measure` but for the source of its words.
 const MEASURE: &str =
     "measure --schema a --spine b --facilities c --records d --measurements m --totals t --ledger l";
-
-// One household cell, and the total of each block measured with share 1.
-pub(crate) const HOUSES: &str =
-    "version = 1\ntotal = \"1\"\n\n[[attribute]]\nname = \"kind\"\nvalues = [\"house\"]\n\n[[level]]\nname = \"nation\"\n\n[[level]]\nname = \"state\"\n\n[[level]]\nname = \"block\"\nquery = [{ name = \"total\", by = [], share = \"1\" }]\n";
-
-pub(crate) const RECORDS: &str = "block,kind\nB1,house\nB1,house\nB2,house\nB2,house\nB2,house\n";
-
-// Six words that give the noise 1, twice.
-pub(crate) const ONES: [u8; 48] = [
-    1, 0, 0, 0, 1, 0, 0, 0, 0, 0, 0, 0, 1, 0, 0, 0, 1, 0, 0, 0, 7, 0, 0, 0, 1, 0, 0, 0, 1, 0, 0, 0,
-    0, 0, 0, 0, 1, 0, 0, 0, 1, 0, 0, 0, 7, 0, 0, 0,
-];
 
 // What `measure` on these files and words comes to.
 fn measured(
@@ -115,53 +106,54 @@ fn a_magnitude_passes_its_limit(rt: HostRuntime) -> Result<(), Fail> {
     Ok(())
 }
 
+// A schema, a spine, facilities and records, and what `measure` comes to with three bytes of words.
+const QUARTERED: [([&str; 4], &str); 9] = [
+    (
+        [
+            DORMITORY,
+            SPINE,
+            DORM,
+            "block,kind\nB1,dorm\nB1,dorm\nB2,dorm\n",
+        ],
+        "3|-=refused records NoFacility B2 dorm\n",
+    ),
+    (
+        [DORMITORY, SPINE, DORM, "block,kind\nB1,dorm\n"],
+        "3|-=refused records Short B1 dorm 1 2\n",
+    ),
+    (
+        [DORMITORY, SPINE, DORM, "block,kind\nB1,dorm\nB2,tent\n"],
+        "3|-=refused records UnknownValue 3\n",
+    ),
+    (
+        [DORMITORY, SPINE, DORM, "block,kind\nS1,house\n"],
+        "3|-=refused records UnknownBlock 2\n",
+    ),
+    (
+        [DORMITORY, SPINE, DORM, "block,kind\nB1\n"],
+        "3|-=refused records BadRow 2\n",
+    ),
+    (
+        [DORMITORY, SPINE, DORM, ""],
+        "3|-=refused records BadHeader 1\n",
+    ),
+    (
+        [WOMEN, SPINE, DORM, "block,kind,sex\nB1,dorm,f\n"],
+        "3|-=refused records ImpossibleCell 2\n",
+    ),
+    (
+        [DORMITORY, SPINE, DORM, "block,kind\nB1,dorm\nB1,dorm\n"],
+        "3|-=refused words BadLength\n",
+    ),
+    (
+        [HOUSES, CHILDLESS, DORM, ""],
+        "3|-=refused spine Childless 3\n",
+    ),
+];
+
 #[test]
 fn records_go_with_the_facilities(rt: HostRuntime) -> Result<(), Fail> {
-    let dorm = "block,kind,count\nB1,dorm,2\n";
-    let table = [
-        (
-            [
-                DORMITORY,
-                SPINE,
-                dorm,
-                "block,kind\nB1,dorm\nB1,dorm\nB2,dorm\n",
-            ],
-            "3|-=refused records NoFacility B2 dorm\n",
-        ),
-        (
-            [DORMITORY, SPINE, dorm, "block,kind\nB1,dorm\n"],
-            "3|-=refused records Short B1 dorm 1 2\n",
-        ),
-        (
-            [DORMITORY, SPINE, dorm, "block,kind\nB1,dorm\nB2,tent\n"],
-            "3|-=refused records UnknownValue 3\n",
-        ),
-        (
-            [DORMITORY, SPINE, dorm, "block,kind\nS1,house\n"],
-            "3|-=refused records UnknownBlock 2\n",
-        ),
-        (
-            [DORMITORY, SPINE, dorm, "block,kind\nB1\n"],
-            "3|-=refused records BadRow 2\n",
-        ),
-        (
-            [DORMITORY, SPINE, dorm, ""],
-            "3|-=refused records BadHeader 1\n",
-        ),
-        (
-            [WOMEN, SPINE, dorm, "block,kind,sex\nB1,dorm,f\n"],
-            "3|-=refused records ImpossibleCell 2\n",
-        ),
-        (
-            [DORMITORY, SPINE, dorm, "block,kind\nB1,dorm\nB1,dorm\n"],
-            "3|-=refused words BadLength\n",
-        ),
-        (
-            [HOUSES, CHILDLESS, dorm, ""],
-            "3|-=refused spine Childless 3\n",
-        ),
-    ];
-    for (texts, want) in table {
+    for (texts, want) in QUARTERED {
         let shown = measured(rt.alloc(), texts, &ONES[..3], 0, 0)?;
         assert_eq!(rt; shown.as_str(), want);
     }
@@ -242,7 +234,6 @@ const TWO_LEVELS: &str =
 
 #[test]
 fn each_class_is_measured(rt: HostRuntime) -> Result<(), Fail> {
-    let dorm = "block,kind,count\nB1,dorm,2\n";
     let table = [
         (
             [SCHEMA, SPINE, FACILITIES, RECORDS],
@@ -253,7 +244,7 @@ fn each_class_is_measured(rt: HostRuntime) -> Result<(), Fail> {
             [
                 DORMITORY,
                 SPINE,
-                dorm,
+                DORM,
                 "block,kind\nB1,dorm\nB2,house\nB1,dorm\nB1,house\nB2,house\nB2,house\n",
             ],
             180,
@@ -263,7 +254,7 @@ fn each_class_is_measured(rt: HostRuntime) -> Result<(), Fail> {
             [
                 TWO_LEVELS,
                 SPINE,
-                dorm,
+                DORM,
                 "block,kind,sex\nB1,house,m\nB1,dorm,f\nB1,dorm,f\nB2,house,f\nB2,house,m\n",
             ],
             128,

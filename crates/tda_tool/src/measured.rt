@@ -1,5 +1,5 @@
 // What `measure` answers.
-ghost use Rattle.std.specs.Prelude.{◌≡◌, ◌<◌, ◌≤◌, codes, length, string_bytes, sum, IfOk};
+ghost use Rattle.std.specs.Prelude.{◌≡◌, ◌<◌, ◌≤◌, ◌++◌, codes, length, string_bytes, sum, IfOk, OnOk};
 ghost use Rattle.tda_frac.specs.Fraction.{text_of};
 ghost use Rattle.tda_model.specs.Bounds.{persons_limit};
 ghost use Rattle.tda_schema.specs.Shares.{frac_of, spent_of};
@@ -118,14 +118,14 @@ fn ledger_output(alloc: Global, counted: &Counted) -> Result<Output, NoMemory>
     })
 }
 
-// What all queries spend together, as it is printed.
-fn spent_text(alloc: Global, schema: &Schema) -> Result<String, NoMemory>
-    ensures { IfOk result (λ t. string_bytes t ≡ text_of (frac_of (spent_of schema.now))) }
+// Appends what all queries spend together.
+fn push_spent(schema: &Schema, out: &mut Vec<u8>) -> Result<(), NoMemory>
+    ensures { OnOk result (out.new.items ≡ out.old.items ++ text_of (frac_of (spent_of schema.now))) }
 {
-    let spent = schema.spent();
-    let num = spent.num();
-    let den = spent.den();
-    Ok(format!(in alloc; "{num}/{den}")?)
+    match schema.spent().push(out) {
+        Ok(()) => Ok(()),
+        Err(_) => Err(NoMemory),
+    }
 }
 
 // The line that tells how many places were measured, what that spends, and how many words were taken.
@@ -134,8 +134,11 @@ fn line(alloc: Global, counted: &Counted, taken: u64) -> Result<Vec<u8>, NoMemor
     ensures { IfOk result (λ v. v.items ≡ (measured_ending counted.now.schema counted.now.spine taken).report) }
 {
     let places = count(&counted.schema, &counted.spine);
-    let spent = spent_text(alloc, &counted.schema)?;
-    Ok(format!(in alloc; "ok measure places={places} spent={spent} words={taken}\n")?.into_bytes())
+    let mut line = format!(in alloc; "ok measure places={places} spent=")?.into_bytes();
+    push_spent(&counted.schema, &mut line)?;
+    let words = format!(in alloc; " words={taken}\n")?;
+    line.extend_from_slice(words.as_bytes())?;
+    Ok(line)
 }
 
 // That all is measured.

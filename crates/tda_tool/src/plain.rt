@@ -26,6 +26,7 @@ fn spare(inputs: &Inputs, unit: u32) -> u64
     let Some(total) = inputs.total(unit) else {
         return 0;
     };
+    // The totals suffice for the facilities, so that no step goes below 0.
     let _ = inputs.spine();
     let mut left = total;
     for kind in 0..inputs.schema().kinds() {

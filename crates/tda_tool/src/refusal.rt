@@ -1,5 +1,5 @@
 // Why a file isn't accepted, and how that is printed.
-ghost use Rattle.std.specs.Prelude.{◌≡◌, ◌<◌, ◌++◌, true, OnOk, OnErr};
+ghost use Rattle.std.specs.Prelude.{◌≡◌, ◌<◌, ◌++◌, true, take, OnOk, OnErr};
 ghost use Rattle.tda_model.specs.Groups.{kind_count};
 ghost use Rattle.tda_io.specs.Texts.{name_test};
 ghost use Rattle.tda_tool.specs.Refusal as spec;
@@ -114,23 +114,38 @@ fn push_numbered(out: &mut Vec<u8>, name: &str, number: u64) -> Result<(), NoMem
     push_coded(out, name, buffer.format(number))
 }
 
+// Keeps so many bytes alone where memory ran out.
+fn or_cut(out: &mut Vec<u8>, kept: usize, pushed: Result<(), NoMemory>) -> Result<(), NoMemory>
+    ensures same { result ≡ pushed }
+    ensures ok { OnOk result (out.new.items ≡ out.old.items) }
+    ensures err { OnErr result (out.new.items ≡ take kept out.old.items) }
+{
+    if pushed.is_err() {
+        out.truncate(kept);
+    }
+    pushed
+}
+
+// Appends two numbers, each after a space.
+fn push_two(out: &mut Vec<u8>, first: u64, second: u64) -> Result<(), NoMemory>
+    ensures ok { OnOk result (spec.numbered (spec.numbered out.old.items first) second ≡ out.new.items) }
+    ensures err { OnErr result (out.new.items ≡ out.old.items) }
+{
+    let before = out.len();
+    push_numbered(out, "", first)?;
+    let pushed = push_numbered(out, "", second);
+    or_cut(out, before, pushed)
+}
+
 // Appends that a state's total is below what its facilities need.
 fn push_short(out: &mut Vec<u8>, code: &str, total: u64, needed: u64) -> Result<(), NoMemory>
     ensures ok { OnOk result (out.new.items ≡ out.old.items ++ spec.short code.now total needed) }
     ensures err { OnErr result (out.new.items ≡ out.old.items) }
 {
-    let mut total_buffer = Buffer::new();
-    let mut needed_buffer = Buffer::new();
-    let total = total_buffer.format(total).as_bytes();
-    let needed = needed_buffer.format(needed).as_bytes();
-    out.reserve(8 + code.len() + total.len() + needed.len())?;
-    out.extend_from_slice(b"Short ").unwrap();
-    out.extend_from_slice(code.as_bytes()).unwrap();
-    out.push(b' ').unwrap();
-    out.extend_from_slice(total).unwrap();
-    out.push(b' ').unwrap();
-    out.extend_from_slice(needed).unwrap();
-    Ok(())
+    let before = out.len();
+    push_coded(out, "Short", code)?;
+    let pushed = push_two(out, total, needed);
+    or_cut(out, before, pushed)
 }
 
 // The row of a unit in the spine's file.
@@ -179,17 +194,11 @@ fn push_facilities(fault: FacFault, out: &mut Vec<u8>) -> Result<(), NoMemory>
 }
 
 // Appends the name of a fault of totals, and the row or the state's code that it carries.
-fn push_totals(
-    schema: &Schema,
-    spine: &Spine,
-    fault: TotFault,
-    out: &mut Vec<u8>,
-) -> Result<(), NoMemory>
-    requires { spec.NamesKnown schema.now spine.now (Named.Totals fault) }
+fn push_totals(spine: &Spine, fault: TotFault, out: &mut Vec<u8>) -> Result<(), NoMemory>
+    requires { spec.NamesState spine.now fault }
     ensures ok { OnOk result (out.new.items ≡ out.old.items ++ spec.totals_text spine.now fault) }
     ensures err { OnErr result (out.new.items ≡ out.old.items) }
 {
-    let _ = schema;
     match fault {
         TotFault::BadRow(row) => push_numbered(out, "BadRow", row),
         TotFault::BadHeader(row) => push_numbered(out, "BadHeader", row),
@@ -239,32 +248,10 @@ fn push_in_block(
     ensures ok { OnOk result (out.new.items ≡ out.old.items ++ spec.in_block schema.now spine.now name.now block kind) }
     ensures err { OnErr result (out.new.items ≡ out.old.items) }
 {
-    let code = spine.code(block);
-    let kind = kind_name(schema, kind);
-    out.reserve(name.len() + 2 + code.len() + kind.len())?;
-    out.extend_from_slice(name.as_bytes()).unwrap();
-    out.push(b' ').unwrap();
-    out.extend_from_slice(code.as_bytes()).unwrap();
-    out.push(b' ').unwrap();
-    out.extend_from_slice(kind.as_bytes()).unwrap();
-    Ok(())
-}
-
-// Appends two numbers, each after a space.
-fn push_two(out: &mut Vec<u8>, first: u64, second: u64) -> Result<(), NoMemory>
-    ensures ok { OnOk result (spec.numbered (spec.numbered out.old.items first) second ≡ out.new.items) }
-    ensures err { OnErr result (out.new.items ≡ out.old.items) }
-{
-    let mut first_buffer = Buffer::new();
-    let mut second_buffer = Buffer::new();
-    let first = first_buffer.format(first).as_bytes();
-    let second = second_buffer.format(second).as_bytes();
-    out.reserve(2 + first.len() + second.len())?;
-    out.push(b' ').unwrap();
-    out.extend_from_slice(first).unwrap();
-    out.push(b' ').unwrap();
-    out.extend_from_slice(second).unwrap();
-    Ok(())
+    let before = out.len();
+    push_coded(out, name, spine.code(block))?;
+    let pushed = push_coded(out, "", kind_name(schema, kind));
+    or_cut(out, before, pushed)
 }
 
 // Appends why the persons of a block don't agree with its facilities.
@@ -291,10 +278,7 @@ fn push_hist(
             let before = out.len();
             push_in_block(schema, spine, "Short", block, kind, out)?;
             let pushed = push_two(out, found, needed);
-            if pushed.is_err() {
-                out.truncate(before);
-            }
-            pushed
+            or_cut(out, before, pushed)
         }
     }
 }
@@ -329,7 +313,7 @@ pub(crate) fn push_named(
     ensures err { OnErr result (out.new.items ≡ out.old.items) }
 {
     match fault {
-        Named::Totals(fault) => push_totals(schema, spine, *fault, out),
+        Named::Totals(fault) => push_totals(spine, *fault, out),
         Named::Join(
             JoinFault::Short {
                 state,

@@ -7,4 +7,4 @@ use Rattle.tda_tool.proofs.Judged.{stop_by}
 use Rattle.tda_tool.proofs.base.facilities_stop.Goals as goal
 
 pub returns-in_default : goal.returns-in_default
-returns-in_default c = stop_by NoMemory file.Facilities facilities_text c.args.fault _ c.in_default.not-NoMemory c.refused.ensures (inl (plain.Facilities c.args.fault, refl))
+returns-in_default c = stop_by NoMemory file.Facilities facilities_text c.args.fault _ c.in_default.not-NoMemory c.refused.ensures (inl (plain.Facilities c.args.fault, refl, c.in_default.not-NoMemory))

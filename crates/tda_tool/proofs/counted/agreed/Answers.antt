@@ -16,4 +16,4 @@ returns-in-Err c =
     let s = c.args.schema.now in
     let sp = c.args.spine.now in
     judged_fault file.Records (hist_text s sp) (agree_due s sp c.args.facilities.now (count_at c.args.tables.now)) (Unit {0}) c.in-Err.fault _ (sym c.in-Err.ensures.due) c.refused_beside.ensures
-    (inr (s, sp, named.Hist c.in-Err.fault, refl))
+    (inr (s, sp, named.Hist c.in-Err.fault, refl, tt))

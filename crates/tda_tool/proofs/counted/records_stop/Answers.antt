@@ -7,4 +7,4 @@ use Rattle.tda_tool.proofs.Judged.{stop_by}
 use Rattle.tda_tool.proofs.counted.records_stop.Goals as goal
 
 pub returns-in_default : goal.returns-in_default
-returns-in_default c = stop_by NoMemory file.Records records_text c.args.fault _ c.in_default.not-NoMemory c.refused.ensures (inl (plain.Records c.args.fault, refl))
+returns-in_default c = stop_by NoMemory file.Records records_text c.args.fault _ c.in_default.not-NoMemory c.refused.ensures (inl (plain.Records c.args.fault, refl, c.in_default.not-NoMemory))

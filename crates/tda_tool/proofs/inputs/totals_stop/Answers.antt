@@ -8,4 +8,4 @@ use Rattle.tda_tool.proofs.inputs.totals_stop.Goals as goal
 
 pub returns-in_default : goal.returns-in_default
 returns-in_default c =
-    stop_by NoMemory file.Totals (totals_text c.args.spine.now) c.args.fault _ c.in_default.not-NoMemory c.refused_beside.ensures (inr (c.args.schema.now, c.args.spine.now, named.Totals c.args.fault, refl))
+    stop_by NoMemory file.Totals (totals_text c.args.spine.now) c.args.fault _ c.in_default.not-NoMemory c.refused_beside.ensures (inr (c.args.schema.now, c.args.spine.now, named.Totals c.args.fault, refl, c.in_default.not-NoMemory))
