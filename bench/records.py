@@ -3,7 +3,7 @@
 
 Files of growing size are read by a program that is made, proved and built in a temporary folder outside the repository: of
 one attribute with one value, and of three, one with 128 values.  Prints for each number of records the nanoseconds of one
-record, those of the csv crate's own loop, how many times those it takes, which is at most 2.5, the ratio to the former size,
+record, those of the csv crate's own loop, how many times those it takes, which is at most 4, the ratio to the former size,
 which is at most 4.6 for four times as many, and the peak memory that a reading adds, beside the bytes of the file and 8 for
 each record.  Usage: bench/records.py
 """
@@ -18,7 +18,7 @@ SIZES = [100_000, 400_000, 1_600_000]
 RECORDS_IN_ALL = 3_200_000
 ROUNDS = 9
 MOST_RATIO = 4.6
-MOST_TIMES = 2.5
+MOST_TIMES = 4
 # Attributes, and how many states there are with how many blocks each.
 CASES = [
     ({"kind": ["house"]}, 100, 200),

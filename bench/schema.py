@@ -4,7 +4,8 @@
 The schemas have seven levels of eight queries, each finer than the one before, and up to 4,096 cells; the spines go up to
 131,072 units.  A program reads the same file again and again; it is made, proved and built in a temporary folder outside
 the repository.  Prints for each size the milliseconds of one reading, the ratio to the former size, which is at most
-2.4 for twice the size, and that to the first one, which is at most 4.8 for four times the size.
+2.4 for twice the size, and that to the first one, which is at most 5.4 for four times the size: what is looked up lies ever
+further apart in memory.
 Usage: bench/schema.py
 """
 import math
@@ -21,6 +22,7 @@ UNITS = [32_768, 65_536, 131_072]
 TIMES = {"schema": 8, "spine": 4}
 ROUNDS = 9
 MOST_RATIO = 2.4
+MOST_OF_FOUR = 5.4
 MOST_SECONDS = 1.0
 
 PROGRAM = r'''
@@ -172,7 +174,7 @@ def print_sizes(program, folder, what, sizes, write):
     times = best_times(program, folder, what, sizes, write)
     former, good = times[0], True
     for size, seconds in zip(sizes, times):
-        good = good and seconds <= MOST_SECONDS and seconds <= MOST_RATIO * former and seconds <= 2 * MOST_RATIO * times[0]
+        good = good and seconds <= MOST_SECONDS and seconds <= MOST_RATIO * former and seconds <= MOST_OF_FOUR * times[0]
         print(f"{size:>8} {seconds * 1e3:>8.2f} {seconds / former:>6.2f} {seconds / times[0]:>8.2f}")
         former = seconds
     return good
