@@ -22,6 +22,9 @@ use crate::{Texts, shares};
 use std::marker::Model;
 use tda_frac::Frac;
 
+// So few values are looked at one after the other, which takes less time than a search by hash.
+const FEW_VALUES: usize = 8;
+
 /// What a schema says: attributes, each with its values, of which the first is the kind of quarters; which cells are
 /// possible; levels from the nation to the block, each with its queries and their shares. Attributes, values, cells,
 /// kinds, levels and queries are numbered from 0.
@@ -121,7 +124,12 @@ impl Schema {
         requires { a < length self.now.attributes }
         ensures { result ≡ position (λ v. bytes_eq v bytes.now) (values_of self.now a) }
     {
-        match self.value_texts(a).find(bytes) {
+        let found = if self.values(a) <= FEW_VALUES {
+            self.attribute(a).find(bytes)
+        } else {
+            self.value_texts(a).find(bytes)
+        };
+        match found {
             Some(v) => Some(v as u16),
             None => None,
         }

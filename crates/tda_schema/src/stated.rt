@@ -28,6 +28,13 @@ pub(crate) fn position_in(texts: &[String], bytes: &[u8]) -> Option<usize>
 }
 
 impl Attribute {
+    /// The number of the value of this text, if there is one: the values are looked at one after the other.
+    pub(crate) fn find(&self, bytes: &[u8]) -> Option<usize>
+        ensures { result ≡ position (λ v. bytes_eq v bytes.now) self.now.values }
+    {
+        position_in(&self.values, bytes)
+    }
+
     /// The text of a value.
     pub(crate) fn value(&self, v: usize) -> &str
         requires { v < length self.now.values }
