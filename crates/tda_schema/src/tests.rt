@@ -4,7 +4,7 @@ ghost use Rattle.tda_schema.specs.Stated.{queries_at};
 
 use crate::SchemaFault::{Denominator, NotNested, OverTotal};
 use crate::document_tests::DEMO;
-use crate::{Schema, SchemaFault, read_schema};
+use crate::{Schema, SchemaFault, Texts, read_schema};
 use std::alloc::{AllocError, Global};
 use std::test::Fail;
 
@@ -51,6 +51,15 @@ fn tells_what_a_schema_says(rt: HostRuntime) -> Result<(), Fail> {
     assert_eq!(rt; schema.find_level(b"county"), None);
     let paid = (schema.common(), schema.spent().num(), schema.spent().den());
     assert_eq!(rt; paid, (1, 0, 1));
+    Ok(())
+}
+
+#[test]
+fn texts_have_their_numbers(rt: HostRuntime) -> Result<(), Fail> {
+    let mut texts = Texts::new(rt.alloc());
+    texts.push(rt.alloc(), b"age0")?;
+    let numbers = (texts.find(b"age0"), texts.find(b"age"), texts.find(b""));
+    assert_eq!(rt; numbers, (Some(0), None, None));
     Ok(())
 }
 
