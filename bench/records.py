@@ -142,23 +142,43 @@ def run(program, folder, what, times, due):
     return seconds, peak
 
 
-def measured(program, folder, what, count, each):
-    """The seconds of reading once, and the peak memory that it adds, by the best of some rounds."""
-    times = max(1, RECORDS_IN_ALL // count)
-    best = {n: min(run(program, folder, what, n, n * each) for _ in range(ROUNDS)) for n in [0, times]}
-    return (best[times][0] - best[0][0]) / times, best[times][1] - best[0][1]
-
-
-def print_case(program, folder, attributes, states, blocks):
-    """Prints what reading takes for each number of records, and whether all is within the limits."""
+def made(folder, attributes, states, blocks, count):
+    """Makes the files of so many records in a folder of their own, and gives the bytes of the records."""
+    folder.mkdir()
     release.write_schema(folder, attributes)
     release.write_spine(folder, states, blocks)
+    return release.write_records(folder, attributes, states, blocks, count)
+
+
+def measured(program, folders):
+    """For each folder with its number of records, what is done with them: the seconds of doing it once, and the peak memory
+    that it adds. By the best of some rounds, each of which goes through all of them, so that a time in which the machine is
+    busy falls on each alike."""
+    best = {}
+    for _ in range(ROUNDS):
+        for folder, count in folders:
+            for what, rows in [("records", count), ("rows", count + 1)]:
+                for times in [0, max(1, RECORDS_IN_ALL // count)]:
+                    found = run(program, folder, what, times, times * rows)
+                    best[folder, what, times] = min(found, best.get((folder, what, times), found))
+    found = {}
+    for folder, what, times in best:
+        if times > 0:
+            base = best[folder, what, 0]
+            found[folder, what] = (best[folder, what, times][0] - base[0]) / times, best[folder, what, times][1] - base[1]
+    return found
+
+
+def print_case(program, top, attributes, states, blocks):
+    """Prints what reading takes for each number of records, and whether all is within the limits."""
+    folders = [(top / f"{len(attributes)}_{count}", count) for count in SIZES]
+    sizes = [made(folder, attributes, states, blocks, count) for folder, count in folders]
+    found = measured(program, folders)
     print(f"{'records':>9} {'ns each':>8} {'csv':>6} {'times':>6} {'ratio':>6} {'MB added':>9} {'file':>6} {'8 each':>7}")
     former, good = None, True
-    for count in SIZES:
-        size = release.write_records(folder, attributes, states, blocks, count)
-        seconds, peak = measured(program, folder, "records", count, count)
-        rows, _ = measured(program, folder, "rows", count, count + 1)
+    for (folder, count), size in zip(folders, sizes):
+        seconds, peak = found[folder, "records"]
+        rows, _ = found[folder, "rows"]
         ratio = "" if former is None else f"{seconds / former:.2f}"
         good = good and (former is None or seconds / former <= MOST_RATIO) and seconds / rows <= MOST_TIMES
         print(
