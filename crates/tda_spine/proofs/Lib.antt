@@ -16,3 +16,4 @@ pub mod Accepted
 pub mod CodeLists
 pub mod Climbs
 mod Worked
+pub mod Largest
