@@ -16,4 +16,3 @@ pub mod Accepted
 pub mod CodeLists
 pub mod Climbs
 mod Worked
-pub mod Largest

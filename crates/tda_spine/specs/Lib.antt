@@ -5,4 +5,3 @@ pub mod Judged
 pub mod Rows
 pub mod Sound
 pub mod Kept
-pub mod Largest

@@ -2,7 +2,6 @@
 #![tactic(auto)]
 
 mod fault;
-mod fit_size;
 mod index;
 mod judge;
 mod lists;
@@ -16,7 +15,6 @@ mod units;
 mod whole;
 
 pub use fault::SpineFault;
-pub use fit_size::FitSize;
 pub use read::read_spine;
 pub use spine::Spine;
 
