@@ -1,6 +1,11 @@
 -- What is given out to units, cell by cell.
 use Rattle.std.specs.Prelude.{ℕ, ◌≡◌, ◌+◌, ◌-◌, ◌*◌, ◌≤◌, ◌<◌, ◌==◌, min, cond, List, length, slice_index, sum_by}
 use Rattle.std.specs.List.{range_with_len}
+use Rattle.tda_model.specs.Schema.{Schema}
+use Rattle.tda_model.specs.Groups.{kind_count}
+use Rattle.tda_model.specs.Spine.{Spine, level_of, children_of}
+use Rattle.tda_model.specs.Tables.{Published}
+use Rattle.tda_model.specs.Bounds.{low, high}
 
 -- the sum of a kind over the first n cells
 abbrev pub kind_part : (ℕ → ℕ) → ℕ → (ℕ → ℕ) → ℕ → ℕ
@@ -39,3 +44,10 @@ spare_left must may spare u k = spare k - sum_by (λ v. leeway must may v k) (ra
 -- what the u-th unit has then
 abbrev pub greedy_quota : (ℕ → ℕ → ℕ) → (ℕ → ℕ → ℕ) → (ℕ → ℕ) → ℕ → ℕ → ℕ
 greedy_quota must may spare u k = must u k + min (spare_left must may spare u k) (leeway must may u k)
+
+-- quotas of a unit's children within their bounds, which add up to a state's total
+pub record AreQuotas (s : Schema) (sp : Spine) (known : Published) (p : ℕ) (quota : ℕ → ℕ → ℕ) : Type 0 where
+  pub enough : (u k : ℕ) → u < length (children_of sp p) → k < kind_count s → low sp known (slice_index (children_of sp p) u) k ≤ quota u k
+  pub not_more : (u k : ℕ) → u < length (children_of sp p) → k < kind_count s → quota u k ≤ high sp known (slice_index (children_of sp p) u) k
+  pub totals : (u : ℕ) → u < length (children_of sp p) → level_of sp (slice_index (children_of sp p) u) ≡ 1
+      → sum_by (quota u) (range_with_len 0 (kind_count s)) ≡ known.total (slice_index (children_of sp p) u)
