@@ -1,13 +1,25 @@
 -- What a unit has after the first cells gave to it.
-use Rattle.std.proofs.Common.{◌≡◌, ◌⊎◌, ℕ, zero, suc, ◌+◌, ◌-◌, ◌<◌, ◌≤◌, ◌≢◌, min, Bool, cond, eqb, List, length, get_or, set, refl, sym, ap, ◌∙◌, subst, inl, inr, arith, ne_eqb, eq-eqb, get_or-set_other, get_or-set_same, length-set}
+use Rattle.std.proofs.Common.{◌≡◌, ◌⊎◌, ℕ, zero, suc, ◌+◌, ◌-◌, ◌<◌, ◌≤◌, ◌≢◌, ◌^◌, min, Bool, true, false, cond, eqb, List, length, get_or, set, refl, sym, ap, ◌∙◌, subst, inl, inr, arith, ne_eqb, eq-eqb, get_or-set_other, get_or-set_same, length-set}
 use Rattle.std.proofs.lemmas.Bool.{cases_eq, cases_lt}
 use Rattle.std.specs.List.{sum_by, range_with_len}
+use Rattle.tda_model.specs.Bounds.{persons_limit}
 use Rattle.tda_model.proofs.Shares.{sum_range_more}
-use Rattle.tda_model.proofs.Sums.{sum_same, sum_zero, each_range}
+use Rattle.tda_model.proofs.Sums.{sum_same, sum_le, sum_zero, each_range, each_any}
+use Rattle.tda_fitnet.proofs.Ranges.{below, below_add}
 use Rattle.tda_fitnet.specs.Giving.{kind_part, IsGiven}
 
 abbrev at : List ℕ → ℕ → ℕ
 at xs k = get_or xs k 0
+
+-- the first terms' sum is at most that of all
+pub below_le : (m n : ℕ) (f : ℕ → ℕ) → m ≤ n → below m f ≤ below n f
+below_le m n f l =
+    let e : m + (n - m) ≡ n = omega arith in
+    let split = ap (λ k. below k f) (sym e) ∙ below_add m (n - m) f in
+    small _ _ _ split
+  where
+    small : (a b c : ℕ) → a ≡ b + c → b ≤ a
+    small a b c e = omega arith
 
 pub part_same : (kind : ℕ → ℕ) (k : ℕ) (x y : ℕ → ℕ) (n : ℕ) → ((r : ℕ) → r < n → x r ≡ y r) → kind_part kind k x n ≡ kind_part kind k y n
 part_same kind k x y n h =
@@ -133,3 +145,36 @@ module _ (kind : ℕ → ℕ) (cells first : ℕ) (apart : cells ≤ first) (old
         subst (λ m. IsGiven kind cells first old_quotas old m (set quotas k (at quotas k - t)) (set (set flow n (at flow n - t)) (first + n) t)) (sym next)
         (subst (λ q. IsGiven kind cells first old_quotas old (suc n) q (set (set flow n (at flow n - t)) (first + n) t)) (sym quotas_are)
         (subst (λ f. IsGiven kind cells first old_quotas old (suc n) quotas2 f) (sym flow_is) given_more))
+
+-- a cell's persons are added to its kind's sum
+pub kind_added : (kind : ℕ → ℕ) (x : ℕ → ℕ) (n : ℕ) (sums : List ℕ) (m : ℕ) → kind n ≡ m → m < length sums
+    → (k : ℕ) → get_or sums k 0 ≡ kind_part kind k x n → get_or (set sums m (get_or sums m 0 + x n)) k 0 ≡ kind_part kind k x (n + 1)
+kind_added kind x n sums m own low k h = elim (cases_eq k m) [
+  | inl e ↦
+      ap (λ j. get_or (set sums m (get_or sums m 0 + x n)) j 0) e ∙ get_or-set_same sums m (get_or sums m 0 + x n) 0 low
+      ∙ ap (λ j. get_or sums j 0 + x n) (sym e) ∙ ap (λ v. v + x n) h
+      ∙ ap (λ v. kind_part kind k x n + v) (sym (ap (λ b. cond b (x n) 0) (eq-eqb (kind n) k (own ∙ sym e))))
+      ∙ sym (part_more kind k x n) ∙ ap (kind_part kind k x) next
+  | inr ne ↦
+      get_or-set_other sums m k (get_or sums m 0 + x n) 0 ne ∙ h ∙ plus_none _ _ (ap (λ b. cond b (x n) 0) (ne_eqb (kind n) k (λ e. ne (sym e ∙ own))))
+      ∙ sym (part_more kind k x n) ∙ ap (kind_part kind k x) next
+]
+  where
+    next : suc n ≡ n + 1
+    next = omega arith
+
+    plus_none : (a b : ℕ) → b ≡ 0 → a ≡ a + b
+    plus_none a b e = omega arith
+
+-- and there is room for it
+pub part_few : (kind : ℕ → ℕ) (k : ℕ) (x : ℕ → ℕ) (n cells sum : ℕ) → n < cells → kind n ≡ k → sum ≡ kind_part kind k x n
+    → sum_by x (range_with_len 0 cells) ≤ persons_limit → sum + x n < 2 ^ 64
+part_few kind k x n cells sum low own is few =
+    let part = sum_le (λ r. cond (eqb (kind r) k) (x r) 0) x (range_with_len 0 (suc n)) (each_any (λ r. cond (eqb (kind r) k) (x r) 0 ≤ x r) (range_with_len 0 (suc n)) (λ r. small (eqb (kind r) k) (x r))) in
+    let first = below_le (suc n) cells x (omega arith) in
+    let more = part_more kind k x n ∙ ap (λ b. kind_part kind k x n + cond b (x n) 0) (eq-eqb (kind n) k own) in
+    omega (arith, part, first, more, is, few)
+  where
+    small : (b : Bool) (n : ℕ) → cond b n 0 ≤ n
+    small true n = omega arith
+    small false n = omega arith

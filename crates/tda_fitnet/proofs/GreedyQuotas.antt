@@ -42,3 +42,12 @@ module _ (must may : ℕ → ℕ → ℕ) (spare : ℕ → ℕ) (k : ℕ) where
     where
       step : (s all lee more : ℕ) → more ≡ all + lee → s - more ≡ s - all - min (s - all) lee
       step s all lee more e = omega arith
+
+  -- the quota and the spare persons as the code has them
+  pub quota_is : (u s l h q : ℕ) → s ≡ spare_left must may spare u k → l ≡ must u k → h ≡ may u k → q ≡ l + min s (h - l) → q ≡ greedy_quota must may spare u k
+  quota_is u s l h q a b c e = e ∙ ap (λ n. n + min s (h - n)) b ∙ ap (λ n. must u k + min s (n - must u k)) c ∙ ap (λ n. must u k + min n (may u k - must u k)) a
+
+  pub left_is : (u s l h s2 : ℕ) → s ≡ spare_left must may spare u k → l ≡ must u k → h ≡ may u k → s2 ≡ s - min s (h - l) → s2 ≡ spare_left must may spare (u + 1) k
+  left_is u s l h s2 a b c e =
+      let next : suc u ≡ u + 1 = omega arith in
+      e ∙ ap (λ n. s - min s (h - n)) b ∙ ap (λ n. s - min s (n - must u k)) c ∙ ap (λ n. n - min n (may u k - must u k)) a ∙ sym (spare_more u) ∙ ap (λ n. spare_left must may spare n k) next

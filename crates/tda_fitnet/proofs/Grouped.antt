@@ -1,5 +1,5 @@
 -- The networks of fits are grouped, and what comes to a group is what its own cells are given and what the groups before it pass on.
-use Rattle.std.proofs.Common.{◌≡◌, ℕ, suc, ◌+◌, ◌-◌, ◌*◌, ◌<◌, ◌≤◌, cond, ◌&&◌, ◌==◌, eqb, nat_lt, List, length, slice_index, pos, refl, sym, ap, ◌∙◌, subst, inl, inr, arith, ne_eqb, eq-eqb}
+use Rattle.std.proofs.Common.{◌≡◌, ℕ, suc, ◌+◌, ◌-◌, ◌*◌, ◌<◌, ◌≤◌, Bool, true, false, cond, ◌&&◌, ◌==◌, eqb, nat_lt, List, length, slice_index, pos, refl, sym, ap, ◌∙◌, subst, inl, inr, arith, ne_eqb, eq-eqb}
 use Rattle.std.proofs.lemmas.Bool.{cases_eq}
 use Rattle.std.proofs.lemmas.Int.{ints}
 use Rattle.tda_model.specs.Bounds.{persons_limit}
@@ -13,11 +13,15 @@ use Rattle.tda_fitnet.specs.Layout.{layout_list, arc_number, source_node, kind_n
 use Rattle.tda_fitnet.specs.Arcs.{NamedArc, network_of, plain_arc, source_arc}
 use Rattle.tda_fitnet.specs.GroupFlows.{end_of, arc_after, coming, IsGrouped}
 use Rattle.tda_fitnet.proofs.Ranges.{below, place_below}
-use Rattle.tda_fitnet.proofs.Places.{each_place, count_is, source_is, share_is, give_is, group_is, into_is, pos_below, pos_cond}
+use Rattle.tda_fitnet.proofs.Places.{each_place, count_is, source_is, share_is, give_is, group_is, into_is, pos_below}
 use Rattle.tda_fitnet.proofs.Nodes.{in_group}
 
 pos_same : (a b : ℕ) → pos a ≡ pos b → a ≡ b
 pos_same a b e = omega (arith, ints)
+
+pos_cond : (b : Bool) (x : ℕ) → cond b (pos x) (pos 0) ≡ pos (cond b x 0)
+pos_cond true x = refl
+pos_cond false x = refl
 
 -- where the arcs of gives and groups begin in the list, and the nodes of groups
 abbrev pub first_give : Layout → ℕ
@@ -82,15 +86,15 @@ module _ (l : Layout) (some_sources : l.states ≤ l.sources) (from : ℕ → �
   placed = each_place l IsPlaced
       (λ n ln. let e : end_of net n ≡ source_node n = ap (λ a. a.to) (source_is l source share give group flow n ln) in record {
         early = λ low. omega (arith, e);
-        gives = λ a b. absurd (omega arith);
-        groups = λ a b. absurd (omega arith);
+        gives = λ from till. absurd (omega arith);
+        groups = λ from some. absurd (omega arith);
       })
       (λ n k ln lk.
       let e : end_of net (share_place l n k) ≡ kind_node l k = ap (λ a. a.to) (share_is l source share give group flow n k ln lk) in
       let b = place_below l.states l.kinds n k ln lk in record {
         early = λ low. omega (arith, e);
-        gives = λ a b. absurd (omega arith);
-        groups = λ a b. absurd (omega arith);
+        gives = λ from till. absurd (omega arith);
+        groups = λ from some. absurd (omega arith);
       })
       (λ u r lu lr.
       let e : end_of net (give_place l u r) ≡ group_node l u (small r) = ap (λ a. a.to) (give_is l source share give group flow u r lu lr) in

@@ -5,22 +5,12 @@ use Rattle.std.specs.List.{sum_by, range_with_len}
 use Rattle.tda_model.proofs.Sums.{sum_same, sum_add, each_range, each_any}
 use Rattle.tda_model.proofs.Shares.{sum_range_more}
 use Rattle.tda_fitnet.specs.Giving.{kind_part, IsGiven, AreGiven}
-use Rattle.tda_fitnet.proofs.Ranges.{below, below_same, below_add, place_below}
+use Rattle.tda_fitnet.proofs.Ranges.{below, below_same, place_below}
 use Rattle.tda_fitnet.proofs.Passing.{term_le}
 use Rattle.tda_fitnet.proofs.GivenOut.{part_same}
 
 abbrev at : List ℕ → ℕ → ℕ
 at xs k = get_or xs k 0
-
--- the first terms' sum is at most that of all
-pub below_le : (m n : ℕ) (f : ℕ → ℕ) → m ≤ n → below m f ≤ below n f
-below_le m n f l =
-    let e : m + (n - m) ≡ n = omega arith in
-    let split = ap (λ k. below k f) (sym e) ∙ below_add m (n - m) f in
-    small _ _ _ split
-  where
-    small : (a b c : ℕ) → a ≡ b + c → b ≤ a
-    small a b c e = omega arith
 
 parts_add : (kind : ℕ → ℕ) (k : ℕ) (x y z : ℕ → ℕ) (n : ℕ) → ((r : ℕ) → r < n → x r + y r ≡ z r) → kind_part kind k x n + kind_part kind k y n ≡ kind_part kind k z n
 parts_add kind k x y z n h =

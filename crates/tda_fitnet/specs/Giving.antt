@@ -51,3 +51,18 @@ pub record AreQuotas (s : Schema) (sp : Spine) (known : Published) (p : ℕ) (qu
   pub not_more : (u k : ℕ) → u < length (children_of sp p) → k < kind_count s → quota u k ≤ high sp known (slice_index (children_of sp p) u) k
   pub totals : (u : ℕ) → u < length (children_of sp p) → level_of sp (slice_index (children_of sp p) u) ≡ 1
       → sum_by (quota u) (range_with_len 0 (kind_count s)) ≡ known.total (slice_index (children_of sp p) u)
+
+-- what the u-th child of a unit must and may have
+abbrev pub child_must : Spine → Published → ℕ → ℕ → ℕ → ℕ
+child_must sp known p u k = low sp known (slice_index (children_of sp p) u) k
+
+abbrev pub child_may : Spine → Published → ℕ → ℕ → ℕ → ℕ
+child_may sp known p u k = high sp known (slice_index (children_of sp p) u) k
+
+-- of the persons in a unit's cells, those whom the unit need not have
+abbrev pub spare_in : Spine → Published → ℕ → (ℕ → ℕ) → List ℕ → ℕ → ℕ → ℕ
+spare_in sp known p kind flow cells k = kind_part kind k (slice_index flow) cells - low sp known p k
+
+-- the quotas of a unit's children
+abbrev pub split_quota : Spine → Published → ℕ → (ℕ → ℕ) → List ℕ → ℕ → ℕ → ℕ → ℕ
+split_quota sp known p kind flow cells = greedy_quota (child_must sp known p) (child_may sp known p) (spare_in sp known p kind flow cells)
