@@ -1,9 +1,9 @@
 -- What the parts of the nets are given: bounds in order, what circulations stand for, and how large the layouts are.
-use Rattle.std.proofs.Common.{◌≡◌, ℕ, zero, ◌+◌, ◌*◌, ◌<◌, ◌≤◌, List, length, All, sym, ap, ◌∙◌, subst, arith, mul-comm}
+use Rattle.std.proofs.Common.{◌≡◌, ℕ, zero, ◌+◌, ◌*◌, ◌<◌, ◌≤◌, List, length, All, refl, sym, ap, ◌∙◌, subst, arith, mul-comm}
 use Rattle.std.proofs.Math.Nat.{le-mul_of_pos_right}
 use Rattle.std.proofs.lemmas.List.Elements.{All-from_get_or}
 use Rattle.tda_model.specs.Schema.{Schema}
-use Rattle.tda_model.specs.Cells.{possible_cells}
+use Rattle.tda_model.specs.Cells.{cell_count, possible_cells}
 use Rattle.tda_model.specs.Groups.{kind_count}
 use Rattle.tda_model.specs.Spine.{Spine, level_of, children_of, units_at}
 use Rattle.tda_model.specs.Tables.{Table, persons_in}
@@ -21,9 +21,13 @@ use Rattle.std.specs.Prelude.{ℤ}
 use Rattle.tda_fitnet.specs.declared.layout.Layout.{Layout}
 use Rattle.tda_fitnet.specs.Layout.{node_number, arc_number}
 use Rattle.tda_fitnet.specs.Inputs.{inputs_of}
-use Rattle.tda_fitnet.specs.Arcs.{split_network, root_network, split_layout, root_layout}
+use Rattle.tda_fitnet.specs.Arcs.{NamedArc, split_network, root_network, split_layout, root_layout, split_arcs, root_arcs}
+use Rattle.tda_fitnet.specs.NamedNetwork.{NamedNetwork}
+use Rattle.tda_fitnet.specs.FitNetwork.{FitNetwork, IsKept, root_fit, split_fit}
 use Rattle.tda_fitnet.specs.Rows.{AreOrdered}
 use Rattle.tda_fitnet.specs.Fits.{SplitsAs, RootAs}
+use Rattle.tda_fitnet.proofs.Ranges.{length_all}
+use Rattle.tda_fitnet.proofs.UnitFacts.{cells_within}
 use Rattle.tda_fitnet.proofs.Sizes.{split_nodes, split_arc_count, root_nodes, root_arc_count}
 use Rattle.tda_fitnet.proofs.NationShares.{attains_vanishes}
 use Rattle.tda_fitnet.proofs.SplitFit.{bounds_fit}
@@ -103,3 +107,39 @@ module _ (s : Schema) (sp : Spine) (limits : IsWithinLimits s sp) (inv : JoinedL
         let made : List ℕ → List ℕ → ℕ → ℕ → Layout = λ xs ys n o. record { sources = length ys; states = length ys; kinds = n; units = 1; cells = length xs; groups = o } in
         ap (λ xs. made xs ss k g) (a ∙ is.whole) ∙ ap (λ ys. made (possible_cells s) ys k g) b ∙ ap (λ n. made (possible_cells s) (units_at sp 1) n g) c
         ∙ ap (made (possible_cells s) (units_at sp 1) (kind_count s)) d
+
+-- ---- a network of a fit from its parts
+kept : (f : FitNetwork) (s : Schema) (named : NamedNetwork) → named.nodes ≡ node_number f.layout → named.arcs ≡ f.arcs → length f.arcs ≡ arc_number f.layout
+    → f.cells ≡ possible_cells s → f.all_cells ≡ cell_count s → length (possible_cells s) ≡ f.layout.cells → IsKept f.layout named f.cells f.all_cells
+kept f s named nodes arcs count cells all same = record {
+  nodes = nodes;
+  layout_is = record {
+    arcs = ap length arcs ∙ count;
+    cells = ap length cells ∙ same;
+    within = subst (λ n. All (λ j. j < n) f.cells) (sym all) (cells_within s f.cells cells);
+  };
+}
+
+module _ (i : Inputs) (groups : List (List ℕ)) (layout : Layout) (named : NamedNetwork) (cells : List ℕ) (all : ℕ)
+    (nodes : named.nodes ≡ node_number layout) (cells_are : cells ≡ possible_cells i.schema) (all_are : all ≡ cell_count i.schema) where
+  abbrev pub made : FitNetwork
+  made = record { layout = layout; arcs = named.arcs; cells = cells; all_cells = all }
+
+  same_parts : (l : Layout) (arcs : List NamedArc) → layout ≡ l → named.arcs ≡ arcs → made ≡ record { layout = l; arcs = arcs; cells = possible_cells i.schema; all_cells = cell_count i.schema }
+  same_parts l arcs a b =
+      let with_parts : Layout → List NamedArc → List ℕ → ℕ → FitNetwork = λ k xs ys n. record { layout = k; arcs = xs; cells = ys; all_cells = n } in
+      ap (λ k. with_parts k named.arcs cells all) a ∙ ap (λ xs. with_parts l xs cells all) b ∙ ap (λ ys. with_parts l arcs ys all) cells_are ∙ ap (with_parts l arcs (possible_cells i.schema)) all_are
+
+  module _ (p : ℕ) (x : Table) (layout_is : layout ≡ split_layout i groups p) (arcs_are : named.arcs ≡ split_arcs i groups p x) where
+    pub split_is : made ≡ split_fit i groups p x
+    split_is = same_parts (split_layout i groups p) (split_arcs i groups p x) layout_is arcs_are
+
+    pub split_kept : IsKept layout named cells all
+    split_kept = kept made i.schema named nodes refl (ap length arcs_are ∙ length_all (split_layout i groups p) _ _ _ _ ∙ sym (ap arc_number layout_is)) cells_are all_are (sym (ap (λ l. l.cells) layout_is))
+
+  module _ (layout_is : layout ≡ root_layout i groups) (arcs_are : named.arcs ≡ root_arcs i groups) where
+    pub root_is : made ≡ root_fit i groups
+    root_is = same_parts (root_layout i groups) (root_arcs i groups) layout_is arcs_are
+
+    pub root_kept : IsKept layout named cells all
+    root_kept = kept made i.schema named nodes refl (ap length arcs_are ∙ length_all (root_layout i groups) _ _ _ _ ∙ sym (ap arc_number layout_is)) cells_are all_are (sym (ap (λ l. l.cells) layout_is))
