@@ -11,7 +11,7 @@ use Rattle.tda_fitnet.specs.declared.layout.Layout.{Layout}
 use Rattle.tda_fitnet.specs.declared.name.ArcName.{ArcName}
 use Rattle.tda_fitnet.specs.Layout.{layout_list, arc_number, source_node, kind_node, share_place, give_place, group_place, group_node}
 use Rattle.tda_fitnet.specs.Arcs.{NamedArc, network_of, plain_arc, source_arc}
-use Rattle.tda_fitnet.specs.GroupFlows.{end_of, arc_after, coming, IsGrouped}
+use Rattle.tda_fitnet.specs.GroupFlows.{first_give, first_group, first_node, end_of, arc_after, coming, IsGrouped}
 use Rattle.tda_fitnet.proofs.Ranges.{below, place_below}
 use Rattle.tda_fitnet.proofs.Places.{each_place, count_is, source_is, share_is, give_is, group_is, into_is, pos_below}
 use Rattle.tda_fitnet.proofs.Nodes.{in_group}
@@ -22,16 +22,6 @@ pos_same a b e = omega (arith, ints)
 pos_cond : (b : Bool) (x : ℕ) → cond b (pos x) (pos 0) ≡ pos (cond b x 0)
 pos_cond true x = refl
 pos_cond false x = refl
-
--- where the arcs of gives and groups begin in the list, and the nodes of groups
-abbrev pub first_give : Layout → ℕ
-first_give l = l.sources + l.states * l.kinds
-
-abbrev pub first_group : Layout → ℕ
-first_group l = l.sources + l.states * l.kinds + l.units * l.cells
-
-abbrev pub first_node : Layout → ℕ
-first_node l = 1 + l.sources + l.kinds
 
 module _ (l : Layout) (some_sources : l.states ≤ l.sources) (from : ℕ → ℕ) (small next : ℕ → ℕ)
     (from_low : (r : ℕ) → r < l.cells → 1 ≤ from r) (from_high : (r : ℕ) → r < l.cells → from r < 1 + l.sources + l.kinds)

@@ -26,23 +26,23 @@ use Rattle.tda_fitnet.specs.Chains.{has_cell, smallest_of, next_of}
 use Rattle.tda_fitnet.specs.Terms.{terms_of, group_low, group_high}
 use Rattle.tda_fitnet.specs.Arcs.{cell_at, child_at, split_layout, split_network}
 use Rattle.tda_fitnet.specs.Fits.{group_sum, split_flow}
-use Rattle.tda_fitnet.specs.GroupFlows.{coming, IsGrouped}
+use Rattle.tda_fitnet.specs.GroupFlows.{first_give, first_group, first_node, coming, IsGrouped}
 use Rattle.tda_fitnet.specs.Giving.{kind_part, AreQuotas}
 use Rattle.tda_fitnet.proofs.Ranges.{below, below_same, length_all, at_source, at_give, at_group}
 use Rattle.tda_fitnet.proofs.Places.{each_place}
 use Rattle.tda_fitnet.proofs.Inner.{tick}
 use Rattle.tda_fitnet.proofs.GroupSums.{balanced_is, members_sum}
 use Rattle.tda_fitnet.proofs.GroupBounds.{Vanishes, kind_cells_sum}
-use Rattle.tda_fitnet.proofs.Grouped.{first_give, first_group, first_node, comes_to_group, grouped}
+use Rattle.tda_fitnet.proofs.Grouped.{comes_to_group, grouped}
 use Rattle.tda_fitnet.proofs.SplitFit.{rank_in, rank_at, cell_can, cell_in, cell_rank, is_cell, from_low, from_high, small_in, down, no_states, children_are, split_of_family}
 
 -- the persons of a kind are those of its possible cells
-pub kind_cells_part : (i : Inputs) (y : Table) (k : ℕ) → Vanishes i.schema y
-    → kind_part (λ r. kind_of i.schema (cell_at i r)) k (λ r. y (cell_at i r)) (length (possible_cells i.schema)) ≡ kind_sum i.schema k y
-kind_cells_part i y k none =
-    sym (sum_by_index (λ j. cond (eqb (kind_of i.schema j) k) (y j) 0) (possible_cells i.schema) 0)
-    ∙ sym (sum_filter y (λ j. eqb (kind_of i.schema j) k) (possible_cells i.schema))
-    ∙ kind_cells_sum i.schema k y none
+pub kind_cells_part : (s : Schema) (y : Table) (k : ℕ) → Vanishes s y
+    → kind_part (λ r. kind_of s (slice_index (possible_cells s) r)) k (λ r. y (slice_index (possible_cells s) r)) (length (possible_cells s)) ≡ kind_sum s k y
+kind_cells_part s y k none =
+    sym (sum_by_index (λ j. cond (eqb (kind_of s j) k) (y j) 0) (possible_cells s) 0)
+    ∙ sym (sum_filter y (λ j. eqb (kind_of s j) k) (possible_cells s))
+    ∙ kind_cells_sum s k y none
 
 module _ (i : Inputs) (tree : IsTree i.spine (nation_of i.spine)) (has : HasKinds i.schema) (most : MostHolds i.known)
     (p : ℕ) (here : IsUnit i.spine p) (t : Tree) (is : IsTreeOf i.schema (level_at i.schema (level_of i.spine p + 1)) t)
@@ -120,7 +120,7 @@ module _ (i : Inputs) (tree : IsTree i.spine (nation_of i.spine)) (has : HasKind
 
     kinds_are : (u k : ℕ) → u < length children → k < kind_count i.schema → kind_sum i.schema k (family (child u)) ≡ quota u k
     kinds_are u k lu lk =
-        sym (kind_cells_part i (family (child u)) k (vanishes (child u)))
+        sym (kind_cells_part i.schema (family (child u)) k (vanishes (child u)))
         ∙ below_same L.cells (λ r. cond (eqb (kind_at r) k) (family (child u) (cell_at i r)) 0) (λ r. cond (eqb (kind_at r) k) (give u r) 0)
         (λ r lr. ap (λ n. cond (eqb (kind_at r) k) n 0) (family_at u r lu lr))
         ∙ g.own u k lu lk

@@ -13,8 +13,8 @@ use Rattle.tda_model.proofs.Sums.{Each, sum_zero, sum_by_index, sum_filter_le, e
 use Rattle.tda_model.proofs.Tree.{child_tells, blocks_split}
 use Rattle.tda_model.proofs.Attain.{attains_in_bounds}
 use Rattle.std.proofs.lemmas.List.Elements.{All-from_recursion}
-use Rattle.tda_fitnet.specs.Giving.{greedy_quota, AreQuotas}
-use Rattle.tda_fitnet.proofs.Ranges.{below}
+use Rattle.tda_fitnet.specs.Giving.{child_must, child_may, leeway, greedy_quota, AreQuotas}
+use Rattle.tda_fitnet.proofs.Ranges.{below, below_same}
 use Rattle.tda_fitnet.proofs.GreedyQuotas.{all_given, at_least, at_most}
 
 min_sum : (limit : ℕ) (f : ℕ → ℕ) (xs : List ℕ) → min limit (sum_by f xs) ≤ sum_by (λ x. min limit (f x)) xs
@@ -35,13 +35,13 @@ module _ (s : Schema) (sp : Spine) (known : Published) (tree : IsTree sp (nation
   child u = slice_index children u
 
   -- what a child must and may have, and who are spare
-  abbrev pub must : ℕ → ℕ → ℕ
-  must u k = low sp known (slice_index (children_of sp p) u) k
+  abbrev must : ℕ → ℕ → ℕ
+  must = child_must sp known p
 
-  abbrev pub may : ℕ → ℕ → ℕ
-  may u k = high sp known (slice_index (children_of sp p) u) k
+  abbrev may : ℕ → ℕ → ℕ
+  may = child_may sp known p
 
-  abbrev pub spare : ℕ → ℕ
+  abbrev spare : ℕ → ℕ
   spare k = kind_sum s k x - low sp known p k
 
   lows_add : (k : ℕ) → sum_by (λ c. low sp known c k) children ≡ low sp known p k
@@ -80,16 +80,19 @@ module _ (s : Schema) (sp : Spine) (known : Published) (tree : IsTree sp (nation
   fits u k l lk = ordered (child u) k (children_here u l).0 lk
 
   -- each child has enough and not too many
-  pub quotas_are : AreQuotas s sp known p (greedy_quota must may spare)
-  quotas_are = record {
-    enough = λ u k l lk. at_least must may spare k u;
-    not_more = λ u k l lk. at_most must may spare k u (fits u k l lk);
+  pub quotas_are : (some : ℕ → ℕ) → AreQuotas s sp known p (greedy_quota (child_must sp known p) (child_may sp known p) some)
+  quotas_are some = record {
+    enough = λ u k l lk. at_least must may some k u;
+    not_more = λ u k l lk. at_most must may some k u (fits u k l lk);
     totals = λ u l e. let above : level_of sp (child u) ≡ level_of sp p + 1 = (children_here u l).1.above in absurd (omega arith);
   }
 
   -- and all persons are given out
-  pub quotas_add : (k : ℕ) → k < kind_count s → below (length (children_of sp p)) (λ u. greedy_quota must may spare u k) ≡ kind_sum s k x
-  quotas_add k l =
+  pub quotas_add : (some : ℕ → ℕ) (k : ℕ) → k < kind_count s → some k ≡ kind_sum s k x - low sp known p k
+      → below (length (children_of sp p)) (λ u. greedy_quota (child_must sp known p) (child_may sp known p) some u k) ≡ kind_sum s k x
+  quotas_add some k l same =
+      below_same (length children) (λ u. greedy_quota must may some u k) (λ u. greedy_quota must may spare u k)
+      (λ u lu. ap (λ n. must u k + min (n - sum_by (λ v. leeway must may v k) (range_with_len 0 u)) (leeway must may u k)) same) ∙
       let musts : sum_by (λ c. low sp known c k) children ≡ below (length children) (λ u. must u k) = sum_by_index (λ c. low sp known c k) children 0 in
       let mays : sum_by (λ c. high sp known c k) children ≡ below (length children) (λ u. may u k) = sum_by_index (λ c. high sp known c k) children 0 in
       all_given must may spare k (length children) (kind_sum s k x) (λ u lu. fits u k lu l)
@@ -100,6 +103,3 @@ module _ (s : Schema) (sp : Spine) (known : Published) (tree : IsTree sp (nation
 
       most : (a b c : ℕ) → a ≤ b → b ≡ c → a ≤ c
       most a b c h e = omega arith
-
-  pub low_enough : (k : ℕ) → k < kind_count s → low sp known p k ≤ kind_sum s k x
-  low_enough k l = bounds.enough k l

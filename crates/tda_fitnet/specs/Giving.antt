@@ -2,6 +2,7 @@
 use Rattle.std.specs.Prelude.{ℕ, ◌≡◌, ◌+◌, ◌-◌, ◌*◌, ◌≤◌, ◌<◌, ◌==◌, min, cond, List, length, slice_index, sum_by}
 use Rattle.std.specs.List.{range_with_len}
 use Rattle.tda_model.specs.Schema.{Schema}
+use Rattle.tda_model.specs.Cells.{kind_of}
 use Rattle.tda_model.specs.Groups.{kind_count}
 use Rattle.tda_model.specs.Spine.{Spine, level_of, children_of}
 use Rattle.tda_model.specs.Tables.{Published}
@@ -66,3 +67,14 @@ spare_in sp known p kind flow cells k = kind_part kind k (slice_index flow) cell
 -- the quotas of a unit's children
 abbrev pub split_quota : Spine → Published → ℕ → (ℕ → ℕ) → List ℕ → ℕ → ℕ → ℕ → ℕ
 split_quota sp known p kind flow cells = greedy_quota (child_must sp known p) (child_may sp known p) (spare_in sp known p kind flow cells)
+
+-- a unit's whole table was given to its children, whose counts of these cells stand from number `first` on, and no later flow changed
+pub record IsTableGiven (s : Schema) (sp : Spine) (known : Published) (p : ℕ) (cells : List ℕ) (first : ℕ) (table old flow : List ℕ) : Type 0 where
+  pub quota : ℕ → ℕ → ℕ
+  pub quotas : AreQuotas s sp known p quota
+  pub count : length flow ≡ length old
+  pub sums : (r : ℕ) → r < length cells
+      → sum_by (λ u. slice_index flow (first + (u * length cells + r))) (range_with_len 0 (length (children_of sp p))) ≡ slice_index table (slice_index cells r)
+  pub own : (u k : ℕ) → u < length (children_of sp p) → k < kind_count s
+      → kind_part (λ r. kind_of s (slice_index cells r)) k (λ r. slice_index flow (first + (u * length cells + r))) (length cells) ≡ quota u k
+  pub others : (j : ℕ) → first + length (children_of sp p) * length cells ≤ j → slice_index flow j ≡ slice_index old j

@@ -2,7 +2,18 @@
 use Rattle.std.specs.Prelude.{ℕ, ◌≡◌, ◌+◌, ◌-◌, ◌*◌, ◌^◌, ◌≤◌, ◌<◌, ◌==◌, cond, if◌then◌else◌, List, length, slice_index, slice_set, sum_by}
 use Rattle.std.specs.List.{range_with_len}
 use Rattle.tda_model.specs.Bounds.{persons_limit}
+use Rattle.tda_fitnet.specs.declared.layout.Layout.{Layout}
 use Rattle.tda_flow.specs.Network.{Network, arc_count, arc_at}
+
+-- where the arcs of gives and of groups begin in the list, and the nodes of groups
+abbrev pub first_give : Layout → ℕ
+first_give l = l.sources + l.states * l.kinds
+
+abbrev pub first_group : Layout → ℕ
+first_group l = l.sources + l.states * l.kinds + l.units * l.cells
+
+abbrev pub first_node : Layout → ℕ
+first_node l = 1 + l.sources + l.kinds
 
 abbrev pub end_of : Network → ℕ → ℕ
 end_of net k = (arc_at net k).to

@@ -9,3 +9,4 @@ pub mod FitNetwork
 pub mod Rows
 pub mod GroupFlows
 pub mod Giving
+pub mod Plain
