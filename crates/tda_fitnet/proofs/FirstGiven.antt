@@ -25,15 +25,15 @@ module _ (kind : ℕ → ℕ) (first cells : ℕ) (n m : ℕ) (flow sums : List 
       elim (cases_eq k m) [
         | inl e ↦ taken _ _ _ _ _ _ _ (ap (λ j. get_or sums2 j 0) e ∙ get_or-set_same sums m 0 0 in_sums) more (before k)
             (ap (λ b. cond b (get_or flow2 (first + n) 0) 0) (eq-eqb (kind n) k (sym own ∙ sym e)) ∙ given) (ap (λ j. get_or sums j 0) e) h
-        | inr ne ↦ left _ _ _ _ _ _ _ (get_or-set_other sums m k 0 0 ne) more (before k)
+        | inr ne ↦ left _ _ _ _ _ _ (get_or-set_other sums m k 0 0 ne) more (before k)
             (ap (λ b. cond b (get_or flow2 (first + n) 0) 0) (ne_eqb (kind n) k (λ e. ne (sym e ∙ sym own)))) h
       ]
     where
       taken : (s2 p2 pb t p s sm : ℕ) {old : ℕ} → s2 ≡ 0 → p2 ≡ pb + t → pb ≡ p → t ≡ sm → s ≡ sm → s + p ≡ old → s2 + p2 ≡ old
       taken s2 p2 pb t p s sm a b c d e f = omega arith
 
-      left : (s2 p2 pb t p s z : ℕ) {old : ℕ} → s2 ≡ s → p2 ≡ pb + t → pb ≡ p → t ≡ 0 → s + p ≡ old → s2 + p2 ≡ old
-      left s2 p2 pb t p s z a b c d f = omega arith
+      left : (s2 p2 pb t p s : ℕ) {old : ℕ} → s2 ≡ s → p2 ≡ pb + t → pb ≡ p → t ≡ 0 → s + p ≡ old → s2 + p2 ≡ old
+      left s2 p2 pb t p s a b c d f = omega arith
 
   pub first_none : (k q : ℕ) → q < n + 1 → kind q ≡ k → ((q : ℕ) → q < n → kind q ≡ k → get_or sums k 0 ≡ 0) → get_or sums2 k 0 ≡ 0
   first_none k q l e h = elim (cases_eq k m) [

@@ -1,8 +1,9 @@
 -- A unit's table as its children are given it, and the circulation that stands for it.
-use Rattle.std.proofs.Common.{◌≡◌, ℕ, suc, ◌+◌, ◌-◌, ◌*◌, ◌<◌, ◌≤◌, cond, eqb, List, length, slice_index, refl, sym, ap, ◌∙◌, subst, inl, inr, arith}
+use Rattle.std.proofs.Common.{◌≡◌, ℕ, zero, suc, ◌+◌, ◌-◌, ◌*◌, ◌<◌, ◌≤◌, cond, eqb, List, length, slice_index, refl, sym, ap, ◌∙◌, subst, inl, inr, arith}
 use Rattle.std.specs.List.{sum_by, range_with_len}
 use Rattle.std.proofs.lemmas.Bool.{cases_lt}
-use Rattle.std.proofs.lemmas.List.{replicate, length-replicate, get_or-replicate}
+use Rattle.std.specs.Prelude.{replicate}
+use Rattle.std.proofs.lemmas.List.{length-replicate, get_or-replicate}
 use Rattle.tda_fitnet.specs.declared.layout.Layout.{Layout}
 use Rattle.tda_model.specs.Schema.{Schema}
 use Rattle.tda_model.specs.Cells.{cell_count, kind_of, possible_cells}
@@ -31,6 +32,9 @@ use Rattle.tda_fitnet.proofs.UnitFacts.{cells_within, counts_few}
 use Rattle.tda_fitnet.proofs.GroupBounds.{Vanishes, possible_persons}
 use Rattle.tda_fitnet.proofs.SplitFit.{cell_in}
 use Rattle.tda_fitnet.proofs.SplitGiven.{kind_cells_part, split_grouped, IsSplitGiven, given_circulates}
+
+pub zeros_length : (n : ℕ) → length (replicate n zero) ≡ n
+zeros_length n = length-replicate n zero
 
 -- where the counts of the possible cells stand first, they have the table's persons
 module _ (s : Schema) (cells : List ℕ) (e : cells ≡ possible_cells s) (table flow : List ℕ) (none : Vanishes s (slice_index table))
@@ -119,24 +123,24 @@ module _ (i : Inputs) (tree : IsTree i.spine (nation_of i.spine)) (has : HasKind
       subst (λ f. IsGrouped (net_at f) (first_give f.layout) (first_group f.layout) (first_node f.layout)) (sym e) (split_grouped i tree has most p here t is (slice_index table) none few flow)
 
   -- the cells' counts were put back after the table was given out of a flow of nothing
-  pub record IsPutBack (f : FitNetwork) (zero given flow : List ℕ) : Type 0 where
-    pub size : length zero ≡ arc_number f.layout
-    pub zeros : (k : ℕ) → k < length zero → slice_index zero k ≡ 0
-    pub table_is : IsTableGiven i.schema i.spine i.known p f.cells f.layout.sources table zero given
+  pub record IsPutBack (f : FitNetwork) (cleared given flow : List ℕ) : Type 0 where
+    pub size : length cleared ≡ arc_number f.layout
+    pub zeros : (k : ℕ) → k < length cleared → slice_index cleared k ≡ 0
+    pub table_is : IsTableGiven i.schema i.spine i.known p f.cells f.layout.sources table cleared given
     pub count : length flow ≡ length given
     pub cells : (r : ℕ) → r < length f.cells → slice_index flow r ≡ slice_index table (slice_index f.cells r)
     pub others : (r : ℕ) → length f.cells ≤ r → slice_index flow r ≡ slice_index given r
 
-  pub put_back : (f : FitNetwork) (l : Layout) (cells1 cells2 start zero given flow : List ℕ) → l ≡ f.layout → cells1 ≡ f.cells → cells2 ≡ f.cells
-      → length start ≡ arc_number f.layout → zero ≡ replicate (length start) 0
-      → IsTableGiven i.schema i.spine i.known p cells1 l.sources table zero given → length flow ≡ length given
+  pub put_back : (f : FitNetwork) (l : Layout) (cells1 cells2 start cleared given flow : List ℕ) → l ≡ f.layout → cells1 ≡ f.cells → cells2 ≡ f.cells
+      → length start ≡ arc_number f.layout → cleared ≡ replicate (length start) 0
+      → IsTableGiven i.schema i.spine i.known p cells1 l.sources table cleared given → length flow ≡ length given
       → ((r : ℕ) → r < length cells2 → slice_index flow r ≡ slice_index table (slice_index cells2 r))
       → ((r : ℕ) → length cells2 ≤ r → slice_index flow r ≡ slice_index given r)
-      → IsPutBack f zero given flow
-  put_back f l cells1 cells2 start zero given flow el e1 e2 size nothing got count cells others = record {
-    size = ap length nothing ∙ length-replicate (length start) 0 ∙ size;
-    zeros = λ k low. ap (λ xs. slice_index xs k) nothing ∙ get_or-replicate (length start) k 0 0 (omega (arith, low, ap length nothing, length-replicate (length start) 0));
-    table_is = subst (λ m. IsTableGiven i.schema i.spine i.known p f.cells m.sources table zero given) el (subst (λ cs. IsTableGiven i.schema i.spine i.known p cs l.sources table zero given) e1 got);
+      → IsPutBack f cleared given flow
+  put_back f l cells1 cells2 start cleared given flow el e1 e2 size nothing got count cells others = record {
+    size = ap length nothing ∙ zeros_length (length start) ∙ size;
+    zeros = λ k low. ap (λ xs. slice_index xs k) nothing ∙ get_or-replicate (length start) k 0 0 (omega (arith, low, ap length nothing, zeros_length (length start)));
+    table_is = subst (λ m. IsTableGiven i.schema i.spine i.known p f.cells m.sources table cleared given) el (subst (λ cs. IsTableGiven i.schema i.spine i.known p cs l.sources table cleared given) e1 got);
     count = count;
     cells = subst (λ cs. (r : ℕ) → r < length cs → slice_index flow r ≡ slice_index table (slice_index cs r)) e2 cells;
     others = subst (λ cs. (r : ℕ) → length cs ≤ r → slice_index flow r ≡ slice_index given r) e2 others;
@@ -153,8 +157,8 @@ module _ (i : Inputs) (tree : IsTree i.spine (nation_of i.spine)) (has : HasKind
     pub sums : (k : ℕ) → first_group f.layout ≤ k → k < arc_number f.layout
         → slice_index flow k ≡ coming (net_at f) flow (first_node f.layout + (k - first_group f.layout))
 
-  module _ (zero given flow : List ℕ) where
-    fit_ready : IsPutBack fit zero given flow → IsReady fit flow
+  module _ (cleared given flow : List ℕ) where
+    fit_ready : IsPutBack fit cleared given flow → IsReady fit flow
     fit_ready h = record {
       limit = λ k l. elim (cases_lt k C) [
         | inl cell ↦ subst (λ n. n ≤ persons_limit) (sym (h.cells k cell)) (few_at k cell)
@@ -173,10 +177,10 @@ module _ (i : Inputs) (tree : IsTree i.spine (nation_of i.spine)) (has : HasKind
         at_most : (a b c d : ℕ) → a ≡ b → b ≤ c → c ≡ d → d ≤ persons_limit → a ≤ persons_limit
         at_most a b c d e f g l = omega arith
 
-    pub ready : (f : FitNetwork) → f ≡ split_fit i t.groups p (slice_index table) → IsPutBack f zero given flow → IsReady f flow
-    ready f e h = subst (λ f. IsPutBack f zero given flow → IsReady f flow) (sym e) fit_ready h
+    pub ready : (f : FitNetwork) → f ≡ split_fit i t.groups p (slice_index table) → IsPutBack f cleared given flow → IsReady f flow
+    ready f e h = subst (λ f. IsPutBack f cleared given flow → IsReady f flow) (sym e) fit_ready h
 
-    fit_begun : (summed : List ℕ) (h : IsPutBack fit zero given flow) → IsSummed fit flow summed → IsBegun i.schema U fit table h.table_is.quota summed
+    fit_begun : (summed : List ℕ) (h : IsPutBack fit cleared given flow) → IsSummed fit flow summed → IsBegun i.schema U fit table h.table_is.quota summed
     fit_begun summed h m = record {
       count = m.count ∙ h.count ∙ h.table_is.count ∙ h.size;
       sources = λ r l. m.kept r (omega arith) ∙ h.cells r l;
@@ -190,8 +194,8 @@ module _ (i : Inputs) (tree : IsTree i.spine (nation_of i.spine)) (has : HasKind
         same : (u r : ℕ) → u < U → r < C → slice_index summed (C + (u * C + r)) ≡ slice_index given (C + (u * C + r))
         same u r lu lr = let b = place_below U C u r lu lr in m.kept (C + (u * C + r)) (omega arith) ∙ h.others (C + (u * C + r)) (omega arith)
 
-    pub put_circulates : (f : FitNetwork) → f ≡ split_fit i t.groups p (slice_index table) → IsSound (net_at f) → IsPutBack f zero given flow
+    pub put_circulates : (f : FitNetwork) → f ≡ split_fit i t.groups p (slice_index table) → IsSound (net_at f) → IsPutBack f cleared given flow
         → (summed : List ℕ) → IsSummed f flow summed → IsCirculation (net_at f) summed
     put_circulates f e sound h summed m =
-        subst (λ f. IsSound (net_at f) → IsPutBack f zero given flow → IsSummed f flow summed → IsCirculation (net_at f) summed) (sym e)
+        subst (λ f. IsSound (net_at f) → IsPutBack f cleared given flow → IsSummed f flow summed → IsCirculation (net_at f) summed) (sym e)
         (λ sound h m. begun_circulates fit refl sound h.table_is.quota h.table_is.quotas summed (fit_begun summed h m)) sound h m

@@ -27,7 +27,7 @@ fn put_state(
     requires state { n < length (units_at spine.now 1) }
     requires room { length (units_at spine.now 1) + length (units_at spine.now 1) * kind_count schema.now ≤ length flow.old }
     requires kinds { kind_count schema.now ≤ length sums.old }
-    requires few { (k : ℕ) → slice_index sums.old k ≤ 2 ^ 60 }
+    requires few { (k : ℕ) → k < kind_count schema.now → slice_index sums.old k ≤ 2 ^ 60 }
     ensures count { length flow.new ≡ length flow.old }
     ensures sum_count { length sums.new ≡ length sums.old }
     ensures total { slice_index flow.new n ≡ (known_of spine.now inv.now).total (slice_index (units_at spine.now 1) n) }
