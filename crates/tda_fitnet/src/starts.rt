@@ -11,13 +11,14 @@ ghost use Rattle.tda_flow.specs.Flow.{IsCirculation};
 ghost use Rattle.tda_flow.specs.Network.{IsSound};
 ghost use Rattle.tda_fitnet.specs.Layout.{arc_number};
 ghost use Rattle.tda_fitnet.specs.Fits.{AreListedShares};
-ghost use Rattle.tda_fitnet.specs.FitNetwork.{net_at, IsSplitFit};
+ghost use Rattle.tda_fitnet.specs.FitNetwork.{net_at, IsRootFit, IsSplitFit};
 ghost use Rattle.tda_fitnet.specs.GroupFlows.{coming, first_give, first_group, first_node, IsGrouped};
 ghost use Rattle.tda_fitnet.specs.Giving.{IsTableGiven};
 
 use crate::fit_net::FitNet;
-use crate::giving::{give_shares, give_within};
+use crate::giving::{MOST_KINDS, give_shares, give_within};
 use crate::group_flows::sum_groups;
+use crate::states::{give_first, put_states};
 use tda_invar::Invariants;
 use tda_schema::Schema;
 use tda_spine::Spine;
@@ -119,5 +120,26 @@ pub fn split_start(
     give_table(schema, spine, inv, fit.cells(), parent, table, shares, first, flow);
     // Giving took from the flows of the cells, whose arcs are fixed.
     put_counts(fit.cells(), table, flow);
+    sum_fit_groups(fit, flow);
+}
+
+/// Makes the flow a circulation of the nation's fit, from which a solver may begin. There is a flow for each arc.
+///
+/// The fit was made by `root_net` with this schema, spine and invariants. Each state has of each kind what it must have, and the
+/// rest of its total in the first kind; the nation has each kind's persons in the kind's first cell. Takes time in proportion to the arcs,
+/// and no memory.
+pub fn root_start(fit: &FitNet, schema: &Schema, spine: &Spine, inv: &Invariants, flow: &mut [u64])
+    requires belong { IsWithinLimits schema.now spine.now }
+    requires joined { IsJoined schema.now spine.now inv.now }
+    requires fit { IsRootFit schema.now spine.now inv.now fit.now }
+    requires flow { length flow.old ≡ arc_number fit.now.layout }
+    ensures { IsCirculation (net_at fit.now) flow.new }
+{
+    let layout = fit.layout();
+    let first = layout.sources as usize + layout.states as usize * layout.kinds as usize;
+    flow.fill(0);
+    let mut sums = [0; MOST_KINDS];
+    put_states(schema, spine, inv, flow, &mut sums);
+    give_first(schema, fit.cells(), first, &mut sums, flow);
     sum_fit_groups(fit, flow);
 }

@@ -1,16 +1,45 @@
-use Rattle.std.proofs.Common.{◌≡◌, ◌⊎◌, ℕ, suc, ◌+◌, ◌*◌, ◌<◌, ◌≤◌, length, slice_index, sym, ap, ◌∙◌, inl, inr, arith, suc-mul, mul-le-mul_right}
+use Rattle.std.proofs.Common.{◌≡◌, ◌⊎◌, ℕ, zero, suc, ◌^◌, [], refl, ◌+◌, ◌*◌, ◌<◌, ◌≤◌, length, slice_index, sym, ap, ◌∙◌, inl, inr, arith, suc-mul, mul-le-mul_right}
 use Rattle.std.specs.List.{sum_by, range_with_len}
 use Rattle.std.proofs.lemmas.Bool.{cases_eq}
 use Rattle.tda_model.specs.Groups.{kind_count}
 use Rattle.tda_model.specs.Spine.{units_at}
 use Rattle.tda_model.proofs.Shares.{sum_range_more}
 use Rattle.tda_invar.specs.Known.{known_of}
+use Rattle.tda_model.specs.Bounds.{persons_limit}
+use Rattle.tda_fitnet.specs.Inputs.{inputs_of}
+use Rattle.tda_fitnet.proofs.RootStart.{plain_are_shares}
+use Rattle.tda_fitnet.proofs.UnitFacts.{listed_state}
 use Rattle.tda_fitnet.specs.Plain.{plain_at}
 use Rattle.tda_fitnet.proofs.Ranges.{place_below}
 use Rattle.tda_fitnet.proofs.states.put_states.Goals as goal
 
+below_limit : (n c : ℕ) (f : ℕ → ℕ) → ((m : ℕ) → m < n → f m ≤ c) → sum_by f (range_with_len 0 n) ≤ n * c
+below_limit zero c f h = omega arith
+below_limit (suc n) c f h = omega (arith, sum_range_more f n, below_limit n c f (λ m l. h m (omega arith)), h n (omega arith), suc-mul n c)
+
 pub put_state-requires-clause-few : goal.put_state-requires-clause-few
-put_state-requires-clause-few c = ?
+put_state-requires-clause-few c = λ k lk.
+    let s = c.args.schema.now in
+    let sp = c.args.spine.now in
+    let known = known_of sp c.args.inv.now in
+    let j = c.requires.joined in
+    let plain = plain_are_shares (inputs_of s sp c.args.inv.now []) j.tree j.kinds j.most j.suffice in
+    let low : c.loop-n.n < length (units_at c.args.spine.now 1) = omega (arith, c.loop-n-test.true, ap length c.at_level-n-end.ensures) in
+    let each : (m : ℕ) → m < c.loop-n.n → plain_at s sp known m k ≤ persons_limit = λ m l.
+    let in_range : m < length (units_at c.args.spine.now 1) = omega (arith, l, low) in
+    let st = listed_state sp (units_at c.args.spine.now 1) refl m in_range in
+    let most = plain.not_more m k in_range lk in
+    let few = j.fits.limited (slice_index (units_at c.args.spine.now 1) m) k st.here lk in
+    through _ _ _ most few in
+    let all = below_limit c.loop-n.n persons_limit (λ m. plain_at s sp known m k) each in
+    let is = c.loop-n.invariant.5 k lk in
+    room _ _ c.loop-n.n is all (omega (arith, low, c.requires.few))
+  where
+    through : (a b c : ℕ) → a ≤ b → b ≤ c → a ≤ c
+    through a b c h k = omega arith
+
+    room : (a b n : ℕ) → a ≡ b → b ≤ n * persons_limit → n ≤ 2 ^ 20 → a ≤ 2 ^ 60
+    room a b n e h l = omega arith
 
 pub loop-n-preserved : goal.loop-n-preserved
 loop-n-preserved c =
