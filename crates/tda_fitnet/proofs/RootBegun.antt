@@ -1,6 +1,6 @@
 -- Where each state has its plain shares, the nation's cells have the persons of each kind, and groups pass on what comes to them, the flow
 -- of the nation's fit is a circulation.
-use Rattle.std.proofs.Common.{◌≡◌, ℕ, zero, suc, ◌+◌, ◌-◌, ◌*◌, ◌<◌, ◌≤◌, ◌&&◌, true, cond, eqb, nat_lt, List, length, get_or, slice_index, refl, sym, ap, ◌∙◌, subst, inl, inr, arith}
+use Rattle.std.proofs.Common.{◌≡◌, ◌⊎◌, ℕ, zero, suc, ◌+◌, ◌-◌, ◌*◌, ◌<◌, ◌≤◌, ◌&&◌, true, cond, eqb, nat_lt, List, length, get_or, slice_index, refl, sym, ap, ◌∙◌, subst, inl, inr, arith}
 use Rattle.std.specs.List.{sum_by, range_with_len}
 use Rattle.std.proofs.lemmas.Bool.{cases_lt, eqb-true}
 use Rattle.std.proofs.lemmas.List.{ext_get_or}
@@ -31,14 +31,15 @@ use Rattle.tda_fitnet.specs.Plain.{plain_share}
 use Rattle.tda_fitnet.proofs.Ranges.{below, below_same, place_below, length_all, at_source, at_share, at_give, at_group}
 use Rattle.tda_fitnet.proofs.Places.{each_place, split_place}
 use Rattle.tda_fitnet.proofs.Inner.{tick}
+use Rattle.tda_fitnet.proofs.GivenOut.{part_same}
 use Rattle.tda_fitnet.proofs.GroupSums.{balanced_is, members_sum}
 use Rattle.tda_fitnet.proofs.GroupBounds.{Vanishes}
 use Rattle.tda_fitnet.proofs.NationShares.{shares_attain}
-use Rattle.tda_fitnet.proofs.SplitFit.{rank_in, cell_can, cell_in, cell_rank, cell_few}
+use Rattle.tda_fitnet.proofs.SplitFit.{rank_in, cell_can, cell_in, cell_rank, is_cell, cell_few}
 use Rattle.tda_fitnet.proofs.SplitGiven.{kind_cells_part}
 use Rattle.tda_fitnet.proofs.UnitFacts.{listed_state}
 use Rattle.tda_fitnet.proofs.RootFit.{from_low, from_high, small_in, down, same_states, root_as}
-use Rattle.tda_fitnet.proofs.RootStart.{plain_are_shares}
+use Rattle.tda_fitnet.proofs.RootStart.{plain_table, plain_are_shares}
 use Rattle.tda_fitnet.proofs.Grouped.{comes_to_group, grouped}
 
 module _ (i : Inputs) (tree : IsTree i.spine (nation_of i.spine)) (has : HasKinds i.schema) (most : MostHolds i.known)
@@ -99,7 +100,7 @@ module _ (i : Inputs) (tree : IsTree i.spine (nation_of i.spine)) (has : HasKind
   abbrev C : ℕ
   C = length (possible_cells i.schema)
 
-  plain_are : AreShares i _ plain
+  plain_are : AreShares i (plain_table i tree has most suffice) plain
   plain_are = plain_are_shares i tree has most suffice
 
   module _ (flow : List ℕ) (g : IsRootGiven fit flow) where
@@ -209,3 +210,61 @@ module _ (i : Inputs) (tree : IsTree i.spine (nation_of i.spine)) (has : HasKind
   pub root_circulates : 0 < length i.schema.levels → (f : FitNetwork) → f ≡ root_fit i t.groups → IsSound (net_at f) → (flow : List ℕ) → IsRootGiven f flow → IsRootSummed f flow → IsCirculation (net_at f) flow
   root_circulates deep f e sound flow g m =
       subst (λ f. IsSound (net_at f) → IsRootGiven f flow → IsRootSummed f flow → IsCirculation (net_at f) flow) (sym e) (λ sound g m. fit_circulates flow g deep sound m) sound g m
+
+  -- the parts of the list of flows
+  root_arcs_are : (f : FitNetwork) → f ≡ root_fit i t.groups → arc_number f.layout ≡ S + (S * K + (1 * C + 1 * length t.groups))
+  root_arcs_are f e = ap (λ f. arc_number f.layout) e
+
+  pub states_room : (f : FitNetwork) → f ≡ root_fit i t.groups → length (units_at i.spine 1) + length (units_at i.spine 1) * kind_count i.schema ≤ arc_number f.layout
+  states_room f e = omega (arith, root_arcs_are f e)
+
+  -- each kind has a cell
+  pub each_kind : (cs : List ℕ) → cs ≡ possible_cells i.schema → (k : ℕ) → k < kind_count i.schema
+      → (r : ℕ) × (r < length cs) × (kind_of i.schema (slice_index cs r) ≡ k)
+  each_kind cs e k l = subst (λ cs. (r : ℕ) × (r < length cs) × (kind_of i.schema (slice_index cs r) ≡ k)) (sym e)
+      (let c = has.cell k l in let cell = is_cell i c.0 c.1 c.2 in (cell.rank, cell.low, ap (kind_of i.schema) cell.is ∙ c.3))
+
+  -- what the code wrote
+  pub root_given : (f : FitNetwork) → f ≡ root_fit i t.groups → (first : ℕ) → first ≡ first_give f.layout → (cs : List ℕ) → cs ≡ f.cells → (states_flow sums flow : List ℕ)
+      → length states_flow ≡ arc_number f.layout → length flow ≡ length states_flow
+      → ((n : ℕ) → n < length (units_at i.spine 1) → slice_index states_flow n ≡ i.known.total (slice_index (units_at i.spine 1) n))
+      → ((n k : ℕ) → n < length (units_at i.spine 1) → k < kind_count i.schema
+      → slice_index states_flow (length (units_at i.spine 1) + (n * kind_count i.schema + k)) ≡ plain_share i.schema i.spine i.known (slice_index (units_at i.spine 1) n) k)
+      → ((k : ℕ) → k < kind_count i.schema → slice_index sums k ≡ below (length (units_at i.spine 1)) (λ n. plain_share i.schema i.spine i.known (slice_index (units_at i.spine 1) n) k))
+      → ((k : ℕ) → k < kind_count i.schema → kind_part (λ r. kind_of i.schema (slice_index cs r)) k (λ r. slice_index flow (first + r)) (length cs) ≡ slice_index sums k)
+      → ((j : ℕ) → (j < first) ⊎ (first + length cs ≤ j) → slice_index flow j ≡ slice_index states_flow j)
+      → IsRootGiven f flow
+  root_given f e first at cs same states_flow sums flow count count2 totals shares are kinds others =
+      let begin : first ≡ S + S * K = at ∙ ap (λ f. first_give f.layout) e in record {
+        count = count2 ∙ count;
+        totals = λ n l. others n (inl (omega arith)) ∙ totals n l;
+        shares = λ n k l lk. let b = place_below S K n k l lk in others (S + (n * K + k)) (inl (omega arith)) ∙ shares n k l lk;
+        kinds = λ k l.
+            ap (λ m. kind_part (λ r. kind_of i.schema (slice_index f.cells r)) k (λ r. slice_index flow (m + r)) (length f.cells)) (sym at)
+            ∙ ap (λ cs. kind_part (λ r. kind_of i.schema (slice_index cs r)) k (λ r. slice_index flow (first + r)) (length cs)) (sym same)
+            ∙ kinds k l ∙ are k l;
+      }
+
+  -- nothing stands yet behind what cells are given
+  pub root_empty : (f : FitNetwork) → f ≡ root_fit i t.groups → (first : ℕ) → first ≡ first_give f.layout → (cs : List ℕ) → cs ≡ f.cells → (k : ℕ) → first_group f.layout ≤ k
+      → (first + length cs ≤ k) × (length (units_at i.spine 1) + length (units_at i.spine 1) * kind_count i.schema ≤ k)
+  root_empty f e first at cs same k l =
+      let begin : first ≡ S + S * K = at ∙ ap (λ f. first_give f.layout) e in
+      let end : first_group f.layout ≡ S + S * K + 1 * C = ap (λ f. first_group f.layout) e in
+      let size : length cs ≡ C = ap length same ∙ ap (λ f. length f.cells) e in
+      (omega arith, omega arith)
+
+  -- and what stays when groups pass on
+  pub root_kept : (f : FitNetwork) → f ≡ root_fit i t.groups → (old flow : List ℕ) → IsRootGiven f old → length flow ≡ length old
+      → ((k : ℕ) → k < first_group f.layout → slice_index flow k ≡ slice_index old k) → IsRootGiven f flow
+  root_kept f e old flow g count kept =
+      subst (λ f. IsRootGiven f old → ((k : ℕ) → k < first_group f.layout → slice_index flow k ≡ slice_index old k) → IsRootGiven f flow) (sym e) at_fit g kept
+    where
+      at_fit : IsRootGiven fit old → ((k : ℕ) → k < first_group L → slice_index flow k ≡ slice_index old k) → IsRootGiven fit flow
+      at_fit g kept = record {
+        count = count ∙ g.count;
+        totals = λ n l. kept n (omega arith) ∙ g.totals n l;
+        shares = λ n k l lk. let b = place_below S K n k l lk in kept (S + (n * K + k)) (omega arith) ∙ g.shares n k l lk;
+        kinds = λ k l. part_same (λ r. kind_of i.schema (cell_at i r)) k (λ r. slice_index flow (S + S * K + r)) (λ r. slice_index old (S + S * K + r)) C
+            (λ r lr. kept (S + S * K + r) (omega arith)) ∙ g.kinds k l;
+      }

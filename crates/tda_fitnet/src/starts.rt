@@ -138,6 +138,8 @@ pub fn root_start(fit: &FitNet, schema: &Schema, spine: &Spine, inv: &Invariants
     let layout = fit.layout();
     let first = layout.sources as usize + layout.states as usize * layout.kinds as usize;
     flow.fill(0);
+    // No schema has more kinds.
+    let _ = schema.kinds();
     let mut sums = [0; MOST_KINDS];
     put_states(schema, spine, inv, flow, &mut sums);
     give_first(schema, fit.cells(), first, &mut sums, flow);
