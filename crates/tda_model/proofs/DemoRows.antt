@@ -1,6 +1,6 @@
 -- The demo's schema: its numbers of groups and places, its fits, its common denominator, and a recode.
 use Rattle.std.proofs.Common.{◌≡◌, ◌∷◌, [], List, refl, Some, None, codes, map, ℕ}
-use Rattle.tda_model.specs.Schema.{Fraction, Query, Level, Schema, Attribute_values, Recode_labels, Entry}
+use Rattle.tda_model.specs.Schema.{Fraction, Query, Schema, Attribute_values, Recode_labels, Entry}
 use Rattle.tda_model.specs.Commons.{lcm, common_of, queries_of}
 use Rattle.tda_model.specs.Deviation.{weight_of}
 use Rattle.tda_model.specs.Groups.{classes_of, class_cells}

@@ -1,6 +1,6 @@
 -- The release of a dormitory, whose count stays at its facilities, and deviations with weights and with equal classes.
 use Rattle.std.proofs.Common.{◌≡◌, ◌==◌, ◌∷◌, [], List, refl, Some, None, codes, cond, pos, neg_ℤ, ℕ, ℤ, sum_by}
-use Rattle.tda_model.specs.Schema.{Fraction, Query, Level, Schema, Attribute_values, Entry}
+use Rattle.tda_model.specs.Schema.{Query, Level, Schema, Attribute_values, Entry}
 use Rattle.tda_model.specs.Commons.{lcm, common_of}
 use Rattle.tda_model.specs.Deviation.{square, deviation}
 use Rattle.tda_model.specs.Bounds.{low, high, needed}

@@ -1,7 +1,7 @@
 -- Fit order: each unit with children once and no other, the nation first, and a unit after its parent.
-use Rattle.std.proofs.Common.{◌≡◌, ◌≢◌, ℕ, zero, suc, ◌+◌, ◌-◌, ◌<◌, ◌≤◌, Bool, true, false, ◌==◌, List, [], ◌∷◌, ◌++◌, length, get_or, drop, take, All, Contains, Option, Some, None, refl, sym, ap, ◌∙◌, subst, inl, inr, ◌⊎◌, arith, eq-eqb}
+use Rattle.std.proofs.Common.{◌≡◌, ◌≢◌, ℕ, zero, suc, ◌+◌, ◌-◌, ◌<◌, ◌≤◌, Bool, true, false, ◌==◌, List, [], ◌∷◌, ◌++◌, length, get_or, Contains, Some, None, refl, sym, ap, ◌∙◌, subst, inl, inr, ◌⊎◌, arith, eq-eqb}
 use Rattle.std.specs.List.{flat_map, AllPairs}
-use Rattle.std.proofs.lemmas.List.Elements.{All-from_recursion, recursion_from_All, All-contains_itself, All-contains, All-get_or}
+use Rattle.std.proofs.lemmas.List.Elements.{All-from_recursion, recursion_from_All, All-contains_itself, All-contains}
 use Rattle.std.proofs.lemmas.List.Kept.{AllPairs-cons}
 use Rattle.tda_model.specs.Spine.{Spine, level_of, parent_of, is_child, children_of, preorder_from, nation_of, parents_of, IsUnit, HasParent, IsTree}
 use Rattle.tda_model.proofs.Sums.{Each, each_weaker, each_both, each_filter, filter_each, each_range, range_each, Ascends, range_ascends, filter_ascends}
@@ -46,9 +46,9 @@ once_joined mark f (c ∷ cs) once each marks =
     once_append (f c) (flat_map f cs) each.0 (once_joined mark f cs once.1 each.1 marks.1)
     (each_weaker (λ v. mark v ≡ c) (λ x. Each (λ y. x ≢ y) (flat_map f cs)) (f c)
     (λ x is. each_joined (λ y. x ≢ y) f cs
-        (each_both (λ d. c ≢ d) (λ d. Each (λ v. mark v ≡ d) (f d)) (λ d. Each (λ y. x ≢ y) (f d)) cs
-        (λ d apart has. each_weaker (λ v. mark v ≡ d) (λ y. x ≢ y) (f d) (λ y is_y same. apart (sym is ∙ ap mark same ∙ is_y)) has)
-        once.0 marks.1))
+    (each_both (λ d. c ≢ d) (λ d. Each (λ v. mark v ≡ d) (f d)) (λ d. Each (λ y. x ≢ y) (f d)) cs
+    (λ d apart has. each_weaker (λ v. mark v ≡ d) (λ y. x ≢ y) (f d) (λ y is_y same. apart (sym is ∙ ap mark same ∙ is_y)) has)
+    once.0 marks.1))
     marks.0)
 
 pub once_pairs : (xs : List ℕ) → EachOnce xs → AllPairs (λ u v. u ≢ v) xs
@@ -206,23 +206,26 @@ module _ (sp : Spine) where
     walk_below : (steps u : ℕ) → Each (IsBelow u) (preorder_from sp steps u)
     walk_below zero u = tt
     walk_below (suc steps) u =
-        walk (Each (IsBelow u)) steps u tt
-        (below_itself u, each_joined (IsBelow u) (preorder_from sp steps) (children_of sp u)
-        (each_child (λ c. Each (IsBelow u) (preorder_from sp steps c)) u
-        (λ c here h. each_weaker (IsBelow c) (IsBelow u) (preorder_from sp steps c) (λ v below. below_up u c v h below) (walk_below steps c))))
+        walk (Each (IsBelow u)) steps u tt (
+          below_itself u,
+          each_joined (IsBelow u) (preorder_from sp steps) (children_of sp u)
+              (each_child (λ c. Each (IsBelow u) (preorder_from sp steps c)) u
+              (λ c here h. each_weaker (IsBelow c) (IsBelow u) (preorder_from sp steps c) (λ v below. below_up u c v h below) (walk_below steps c))),
+        )
 
     walk_once : (steps u : ℕ) → EachOnce (preorder_from sp steps u)
     walk_once zero u = tt
     walk_once (suc steps) u =
-        walk EachOnce steps u tt
-        (each_joined (λ v. u ≢ v) (preorder_from sp steps) (children_of sp u)
-        (each_child (λ c. Each (λ v. u ≢ v) (preorder_from sp steps c)) u
-        (λ c here h. each_weaker (IsBelow c) (λ v. u ≢ v) (preorder_from sp steps c) (λ v below same. deeper c v h below same) (walk_below steps c))),
-        once_joined (λ v. up sp v (level_of sp v - (level_of sp u + 1))) (preorder_from sp steps) (children_of sp u) (children_once u)
-        (each_child (λ c. EachOnce (preorder_from sp steps c)) u (λ c here h. walk_once steps c))
-        (each_child (λ c. Each (λ v. up sp v (level_of sp v - (level_of sp u + 1)) ≡ c) (preorder_from sp steps c)) u
-        (λ c here h. each_weaker (IsBelow c) (λ v. up sp v (level_of sp v - (level_of sp u + 1)) ≡ c) (preorder_from sp steps c)
-        (λ v below. ap (λ l. up sp v (level_of sp v - l)) (sym h.above) ∙ below.over) (walk_below steps c))))
+        walk EachOnce steps u tt (
+          each_joined (λ v. u ≢ v) (preorder_from sp steps) (children_of sp u)
+              (each_child (λ c. Each (λ v. u ≢ v) (preorder_from sp steps c)) u
+              (λ c here h. each_weaker (IsBelow c) (λ v. u ≢ v) (preorder_from sp steps c) (λ v below same. deeper c v h below same) (walk_below steps c))),
+          once_joined (λ v. up sp v (level_of sp v - (level_of sp u + 1))) (preorder_from sp steps) (children_of sp u) (children_once u)
+              (each_child (λ c. EachOnce (preorder_from sp steps c)) u (λ c here h. walk_once steps c))
+              (each_child (λ c. Each (λ v. up sp v (level_of sp v - (level_of sp u + 1)) ≡ c) (preorder_from sp steps c)) u
+              (λ c here h. each_weaker (IsBelow c) (λ v. up sp v (level_of sp v - (level_of sp u + 1)) ≡ c) (preorder_from sp steps c)
+              (λ v below. ap (λ l. up sp v (level_of sp v - l)) (sym h.above) ∙ below.over) (walk_below steps c))),
+        )
       where
         deeper : (c v : ℕ) → HasParent sp c u → IsBelow c v → u ≡ v → ⊥
         deeper c v h below same =
@@ -240,10 +243,12 @@ module _ (sp : Spine) where
     walk_after : (steps u : ℕ) (S : ℕ → Type 0) → ((p : ℕ) → HasParent sp u p → S p) → AreAfterParents S (preorder_from sp steps u)
     walk_after zero u S seen = tt
     walk_after (suc steps) u S seen =
-        walk (AreAfterParents S) steps u tt
-        (seen, after_joined (λ v. (v ≡ u) ⊎ S v) (preorder_from sp steps) (children_of sp u)
-        (each_child (λ c. AreAfterParents (λ v. (v ≡ u) ⊎ S v) (preorder_from sp steps c)) u
-        (λ c here h. walk_after steps c (λ v. (v ≡ u) ⊎ S v) (λ p k. inl (one_parent c p u k h)))))
+        walk (AreAfterParents S) steps u tt (
+          seen,
+          after_joined (λ v. (v ≡ u) ⊎ S v) (preorder_from sp steps) (children_of sp u)
+              (each_child (λ c. AreAfterParents (λ v. (v ≡ u) ⊎ S v) (preorder_from sp steps c)) u
+              (λ c here h. walk_after steps c (λ v. (v ≡ u) ⊎ S v) (λ p k. inl (one_parent c p u k h)))),
+        )
 
     -- a unit after its parent
     pub parent_before : (k : ℕ) → k < length (parents_of sp) → (p : ℕ) → HasParent sp (get_or (parents_of sp) k 0) p → (i : ℕ) × (i < k) × (get_or (parents_of sp) i 0 ≡ p)
@@ -260,6 +265,7 @@ module _ (sp : Spine) where
         from zero e = let deep : 2 ≤ sp.depth = t.deep in absurd (omega arith)
         from (suc steps) e =
             let deep : 2 ≤ sp.depth = t.deep in
-            let root : level_of sp (nation_of sp) ≡ 0 = t.root_level in
-            (flat_map (preorder_from sp steps) (children_of sp (nation_of sp)),
-            ap (λ n. preorder_from sp n (nation_of sp)) e ∙ step_of steps (nation_of sp) (inner_has (nation_of sp) t.root (omega arith)))
+            let root : level_of sp (nation_of sp) ≡ 0 = t.root_level in (
+              flat_map (preorder_from sp steps) (children_of sp (nation_of sp)),
+              ap (λ n. preorder_from sp n (nation_of sp)) e ∙ step_of steps (nation_of sp) (inner_has (nation_of sp) t.root (omega arith)),
+            )

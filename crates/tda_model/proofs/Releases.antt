@@ -1,14 +1,14 @@
 -- The splits of a release in fit order, and the uniqueness of a first release.
-use Rattle.std.proofs.Common.{◌≡◌, ◌≢◌, ℕ, zero, suc, ◌+◌, ◌-◌, ◌<◌, ◌≤◌, List, [], ◌∷◌, ◌++◌, All, length, map, sum_by, refl, sym, ap, ◌∙◌, subst, inl, inr, ◌⊎◌, arith}
+use Rattle.std.proofs.Common.{◌≡◌, ℕ, zero, suc, ◌+◌, ◌<◌, List, [], ◌∷◌, ◌++◌, All, map, refl, sym, ap, ◌∙◌, subst, inl, inr, arith}
 use Rattle.std.specs.List.{flat_map}
 use Rattle.std.proofs.lemmas.List.Elements.{All-from_recursion, recursion_from_All}
 use Rattle.tda_model.specs.Schema.{Schema}
 use Rattle.tda_model.specs.Cells.{cell_count, all_cells}
-use Rattle.tda_model.specs.Spine.{Spine, level_of, children_of, nation_of, parents_of, IsUnit, HasParent, IsTree}
+use Rattle.tda_model.specs.Spine.{Spine, level_of, children_of, nation_of, parents_of, IsUnit, IsTree}
 use Rattle.tda_model.specs.Tables.{Table, Tables}
-use Rattle.tda_model.specs.Least.{LeastRoot, LeastSplit, IsFamily, family_deviation}
+use Rattle.tda_model.specs.Least.{LeastSplit, IsFamily}
 use Rattle.tda_model.specs.First.{IsNotLater, FirstRoot, FirstSplit, FirstRelease, counts_of, family_counts}
-use Rattle.tda_model.proofs.Sums.{Each, each_range, range_each}
+use Rattle.tda_model.proofs.Sums.{Each, range_each}
 use Rattle.tda_model.proofs.FitOrder.{parents_each, each_inner, inner_has, has_inner, among_children, some_child}
 
 module _ (CanBe : ℕ → Table → Type 0) (dev : ℕ → Table → ℕ) (s : Schema) (sp : Spine) (t : IsTree sp (nation_of sp)) where
