@@ -1,7 +1,9 @@
 -- Fit order: each unit with children once and no other, the nation first, and a unit after its parent.
-use Rattle.std.proofs.Common.{◌≡◌, ◌≢◌, ℕ, zero, suc, ◌+◌, ◌-◌, ◌<◌, ◌≤◌, Bool, true, false, ◌==◌, List, [], ◌∷◌, ◌++◌, length, get_or, Contains, Some, None, refl, sym, ap, ◌∙◌, subst, inl, inr, ◌⊎◌, arith, eq-eqb}
+use Rattle.std.proofs.Common.{◌≡◌, ◌≢◌, ℕ, zero, suc, ◌+◌, ◌-◌, ◌<◌, ◌≤◌, Bool, true, false, ◌==◌, List, [], ◌∷◌, ◌++◌, length, get_or, drop, Contains, Some, None, refl, sym, ap, ◌∙◌, subst, inl, inr, ◌⊎◌, arith, eq-eqb}
 use Rattle.std.specs.List.{flat_map, AllPairs}
-use Rattle.std.proofs.lemmas.List.Elements.{All-from_recursion, recursion_from_All, All-contains_itself, All-contains}
+use Rattle.std.proofs.lemmas.List.Elements.{All-from_recursion, recursion_from_All, All-contains_itself, All-contains, All-get_or, All-from_get_or}
+use Rattle.std.proofs.lemmas.Bool.{cases_lt}
+use Rattle.std.proofs.lemmas.List.{get_or-drop, length-drop}
 use Rattle.std.proofs.lemmas.List.Kept.{AllPairs-cons}
 use Rattle.tda_model.specs.Spine.{Spine, level_of, parent_of, is_child, children_of, preorder_from, nation_of, parents_of, IsUnit, HasParent, IsTree}
 use Rattle.tda_model.proofs.Sums.{Each, each_weaker, each_both, each_filter, filter_each, each_range, range_each, Ascends, range_ascends, filter_ascends}
@@ -269,3 +271,21 @@ module _ (sp : Spine) where
               flat_map (preorder_from sp steps) (children_of sp (nation_of sp)),
               ap (λ n. preorder_from sp n (nation_of sp)) e ∙ step_of steps (nation_of sp) (inner_has (nation_of sp) t.root (omega arith)),
             )
+
+    -- a unit's child that has children itself stands after it
+    pub child_later : (k : ℕ) → k < length (parents_of sp) → (c : ℕ) → IsUnit sp c → level_of sp c + 1 < sp.depth → HasParent sp c (get_or (parents_of sp) k 0)
+        → Each (λ v. v ≢ c) (drop (k + 1) (parents_of sp)) → ⊥
+    child_later k l c here inner h none =
+        each_inner (λ v. v ≢ c) (recursion_from_All (λ v. v ≢ c) (parents_of sp) (All-from_get_or (λ v. v ≢ c) (parents_of sp) 0 apart)) c here inner refl
+      where
+        apart : (i : ℕ) → i < length (parents_of sp) → get_or (parents_of sp) i 0 ≢ c
+        apart i low same = elim (cases_lt k i) [
+          | inl after ↦
+              let there : k + 1 + (i - (k + 1)) ≡ i = omega arith in
+              let is : get_or (drop (k + 1) (parents_of sp)) (i - (k + 1)) 0 ≡ get_or (parents_of sp) i 0 = get_or-drop (k + 1) (parents_of sp) (i - (k + 1)) 0 ∙ ap (λ n. get_or (parents_of sp) n 0) there in
+              All-get_or (λ v. v ≢ c) (drop (k + 1) (parents_of sp)) (i - (k + 1)) 0 (omega (arith, length-drop (k + 1) (parents_of sp), after, low)) (All-from_recursion _ (drop (k + 1) (parents_of sp)) none) (is ∙ same)
+          | inr before ↦
+              let found = parent_before i low (get_or (parents_of sp) k 0) (subst (λ v. HasParent sp v (get_or (parents_of sp) k 0)) (sym same) h) in
+              let less = found.1 in
+              once_pairs (parents_of sp) parents_once found.0 k 0 (omega arith) l found.2
+        ]
