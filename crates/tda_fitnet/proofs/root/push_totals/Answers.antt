@@ -38,5 +38,5 @@ loop-n-preserved c =
       ap (λ m. m.nodes) c.in_ok-push_source.ensures ∙ c.loop-n.invariant.0,
       ap length arcs ∙ length-append c.loop-n.fit.arcs _ ∙ omega (arith, c.loop-n.invariant.1),
       arcs ∙ ap (λ x. c.loop-n.fit.arcs ++ source_arc n x ∷ []) amount
-      ∙ row_more _ _ n (λ k. source_arc k (total (slice_index (units_at sp 1) k))) c.loop-n.invariant.2,
+          ∙ row_more _ _ n (λ k. source_arc k (total (slice_index (units_at sp 1) k))) c.loop-n.invariant.2,
     )

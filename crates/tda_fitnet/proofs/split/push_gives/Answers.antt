@@ -21,6 +21,6 @@ loop-u-preserved c =
       c.in_ok-push_child_gives.ensures.nodes ∙ c.loop-u.invariant.0,
       c.in_ok-push_child_gives.ensures.count ∙ rows_count u L.cells (length c.args.fit.now.arcs) _ _ c.loop-u.invariant.1 (sym c.requires.cells),
       c.in_ok-push_child_gives.ensures.arcs L u c.first_group.ensures.node
-      ∙ ap (λ n. c.loop-u.fit.arcs ++ row n (f u)) (sym c.requires.cells)
-      ∙ rows_more _ _ u L.cells f c.loop-u.invariant.2,
+          ∙ ap (λ n. c.loop-u.fit.arcs ++ row n (f u)) (sym c.requires.cells)
+          ∙ rows_more _ _ u L.cells f c.loop-u.invariant.2,
     )

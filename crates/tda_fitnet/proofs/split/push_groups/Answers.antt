@@ -49,7 +49,7 @@ loop-u-preserved c =
       c.in_ok-push_child_groups.ensures.nodes ∙ c.loop-u.invariant.0,
       c.in_ok-push_child_groups.ensures.count ∙ rows_count u (length groups) (length c.args.fit.now.arcs) _ _ c.loop-u.invariant.1 refl,
       c.in_ok-push_child_groups.ensures.arcs L u c.first_group-base.ensures.node
-      ∙ ap (λ v. c.loop-u.fit.arcs ++ child_groups i L groups (level_at s v) u (slice_index items u)) below.level
-      ∙ ap (λ xs. c.loop-u.fit.arcs ++ child_groups i L groups level u (slice_index xs u)) c.children-child-items.ensures
-      ∙ rows_more _ _ u (length groups) (λ v. child_group i L groups level v (slice_index (children_of sp c.args.parent) v)) c.loop-u.invariant.2,
+          ∙ ap (λ v. c.loop-u.fit.arcs ++ child_groups i L groups (level_at s v) u (slice_index items u)) below.level
+          ∙ ap (λ xs. c.loop-u.fit.arcs ++ child_groups i L groups level u (slice_index xs u)) c.children-child-items.ensures
+          ∙ rows_more _ _ u (length groups) (λ v. child_group i L groups level v (slice_index (children_of sp c.args.parent) v)) c.loop-u.invariant.2,
     )
