@@ -1,5 +1,5 @@
 -- The arcs that are pushed, row by row, are those of the networks.
-use Rattle.std.proofs.Common.{◌≡◌, ℕ, ◌+◌, List, [], ◌++◌, length, slice_index, refl, sym, ap, ◌∙◌}
+use Rattle.std.proofs.Common.{◌≡◌, ℕ, ◌+◌, List, ◌++◌, length, slice_index, sym, ap, ◌∙◌}
 use Rattle.std.proofs.lemmas.List.{append_assoc, append-nil}
 use Rattle.tda_model.specs.Cells.{kind_of, possible_cells}
 use Rattle.tda_model.specs.Bounds.{persons_limit}

@@ -1,7 +1,6 @@
 -- One more cell.
-use Rattle.std.proofs.Common.{◌≡◌, ◌<◌, ◌≤◌, ◌+◌, ◌∷◌, [], ◌++◌, ℕ, List, All, length, slice_index, Contains, subst, sym, ap, ◌∙◌, arith}
-use Rattle.std.proofs.lemmas.List.Elements.{Contains-get_or}
-use Rattle.tda_model.specs.Cells.{kind_of, cell_count, possible_cells}
+use Rattle.std.proofs.Common.{◌+◌, ◌∷◌, [], ◌++◌, ℕ, length, slice_index, ap, ◌∙◌, arith}
+use Rattle.tda_model.specs.Cells.{kind_of}
 use Rattle.tda_groups.specs.Order.{group_at}
 use Rattle.tda_fitnet.specs.Layout.{kind_node}
 use Rattle.tda_fitnet.specs.Arcs.{give_arc}

@@ -1,5 +1,5 @@
 -- One more group.
-use Rattle.std.proofs.Common.{◌≡◌, ◌<◌, ◌≤◌, ◌+◌, ◌∷◌, [], ◌++◌, ℕ, length, subst, sym, ap, ◌∙◌, arith}
+use Rattle.std.proofs.Common.{◌≡◌, ◌<◌, ◌∷◌, [], ◌++◌, ℕ, length, subst, sym, ap, ◌∙◌, arith}
 use Rattle.tda_model.specs.Bounds.{persons_limit}
 use Rattle.tda_model.specs.Schema.{Level}
 use Rattle.tda_model.specs.Spine.{IsUnit, level_of, nation_of}

@@ -1,5 +1,5 @@
 -- One more state.
-use Rattle.std.proofs.Common.{◌≡◌, ◌≤◌, ◌+◌, ◌*◌, ◌++◌, ℕ, List, length, slice_index, refl, ap, ◌∙◌, arith}
+use Rattle.std.proofs.Common.{◌≡◌, ◌++◌, length, slice_index, refl, ap, ◌∙◌, arith}
 use Rattle.tda_model.specs.Spine.{units_at}
 use Rattle.tda_fitnet.specs.Layout.{rows}
 use Rattle.tda_fitnet.specs.Inputs.{inputs_of}

@@ -1,5 +1,5 @@
 -- One more kind.
-use Rattle.std.proofs.Common.{◌≡◌, ◌≤◌, ◌+◌, ◌∷◌, [], ◌++◌, ℕ, List, length, ap, ◌∙◌, arith, length-append}
+use Rattle.std.proofs.Common.{◌≡◌, ◌+◌, ◌∷◌, [], ◌++◌, ℕ, length, ap, ◌∙◌, arith, length-append}
 use Rattle.tda_model.specs.Bounds.{low}
 use Rattle.tda_invar.specs.Known.{known_of}
 use Rattle.tda_fitnet.specs.declared.name.ArcName.TheVariants.{Share}

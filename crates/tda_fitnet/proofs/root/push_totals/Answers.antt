@@ -1,5 +1,5 @@
 -- One more state.
-use Rattle.std.proofs.Common.{◌≡◌, ◌≤◌, ◌+◌, ◌∷◌, [], ◌++◌, ℕ, length, slice_index, subst, sym, ap, ◌∙◌, arith, length-append}
+use Rattle.std.proofs.Common.{◌≤◌, ◌∷◌, [], ◌++◌, length, slice_index, subst, sym, ap, ◌∙◌, arith, length-append}
 use Rattle.tda_model.specs.Bounds.{persons_limit}
 use Rattle.tda_model.specs.Spine.{units_at}
 use Rattle.tda_invar.specs.Known.{known_of}

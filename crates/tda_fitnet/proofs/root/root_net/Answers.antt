@@ -1,5 +1,5 @@
 -- The net is that of the nation's fit, and so its circulations are the nation's tables.
-use Rattle.std.proofs.Common.{◌≡◌, [], sym, ap, ◌∙◌, subst, arith}
+use Rattle.std.proofs.Common.{[], ap, ◌∙◌, subst}
 use Rattle.tda_flow.specs.Network.{IsSound}
 use Rattle.tda_fitnet.specs.Inputs.{inputs_of}
 use Rattle.tda_fitnet.specs.NamedNetwork.{NamedNetwork}

@@ -1,7 +1,5 @@
 -- One more group.
-use Rattle.std.proofs.Common.{◌≡◌, ◌≤◌, ◌+◌, ◌∷◌, [], ◌++◌, ℕ, length, ap, ◌∙◌, arith}
-use Rattle.tda_model.specs.Release.{Inputs}
-use Rattle.tda_model.specs.Schema.{Level}
+use Rattle.std.proofs.Common.{◌≡◌, ◌∷◌, [], ◌++◌, length, ap, ◌∙◌, arith}
 use Rattle.tda_model.specs.Spine.{level_of}
 use Rattle.tda_schema.specs.Stated.{level_at}
 use Rattle.tda_groups.specs.Order.{group_at}

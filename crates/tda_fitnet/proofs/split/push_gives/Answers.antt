@@ -1,5 +1,5 @@
 -- One more child.
-use Rattle.std.proofs.Common.{◌≡◌, ◌+◌, ◌*◌, ◌++◌, ℕ, length, slice_index, sym, ap, ◌∙◌, arith}
+use Rattle.std.proofs.Common.{◌++◌, ℕ, length, slice_index, sym, ap, ◌∙◌, arith}
 use Rattle.tda_groups.specs.Order.{group_at}
 use Rattle.tda_fitnet.specs.Layout.{row, source_node}
 use Rattle.tda_fitnet.specs.Arcs.{give_arc}

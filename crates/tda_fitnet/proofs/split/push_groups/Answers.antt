@@ -1,12 +1,12 @@
 -- One more child.
-use Rattle.std.proofs.Common.{◌≡◌, ◌≤◌, ◌<◌, ◌+◌, ◌*◌, ◌++◌, ℕ, List, length, slice_index, refl, sym, ap, ◌∙◌, subst, arith}
+use Rattle.std.proofs.Common.{◌+◌, ◌*◌, ◌++◌, length, slice_index, refl, sym, ap, ◌∙◌, subst, arith}
 use Rattle.tda_model.specs.Spine.{level_of, children_of}
 use Rattle.tda_schema.specs.Stated.{level_at}
 use Rattle.tda_groups.specs.Tree.{IsTreeOf}
 use Rattle.tda_fitnet.specs.Inputs.{inputs_of}
 use Rattle.tda_fitnet.specs.Rows.{AreOrdered, child_group, child_groups}
 use Rattle.tda_fitnet.proofs.OneMore.{rows_more, rows_room, rows_count}
-use Rattle.tda_fitnet.proofs.UnitFacts.{IsBelow, listed_below}
+use Rattle.tda_fitnet.proofs.UnitFacts.{listed_below}
 use Rattle.tda_fitnet.proofs.split.push_groups.Goals as goal
 
 pub push_child_groups-requires-clause-child : goal.push_child_groups-requires-clause-child

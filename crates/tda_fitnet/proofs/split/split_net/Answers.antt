@@ -1,5 +1,5 @@
 -- The net is the split's, and so its circulations are the split's families.
-use Rattle.std.proofs.Common.{◌≡◌, [], slice_index, sym, ap, ◌∙◌, subst, arith}
+use Rattle.std.proofs.Common.{[], slice_index, ap, ◌∙◌, subst}
 use Rattle.tda_flow.specs.Network.{IsSound}
 use Rattle.tda_fitnet.specs.Inputs.{inputs_of}
 use Rattle.tda_fitnet.specs.NamedNetwork.{NamedNetwork}

@@ -1,5 +1,5 @@
 -- The names stand beside the arcs.
-use Rattle.std.proofs.Common.{◌≡◌, ◌<◌, length, map, get_or, sym, ap, ◌∙◌, arith}
+use Rattle.std.proofs.Common.{◌<◌, length, map, get_or, sym, ap, ◌∙◌, arith}
 use Rattle.std.proofs.lemmas.List.{get_or_read}
 use Rattle.tda_fitnet.specs.declared.name.ArcName.TheVariants.{Fixed}
 use Rattle.tda_fitnet.proofs.Beside.{names_back, count_back}
