@@ -24,14 +24,18 @@ pub record HasRoom (n m : ℕ) (t : Tables) : Type 0 where
   pub found : n ≤ vec_capacity t.found
   pub walk : n ≤ vec_len t.walk
 
--- there are quotes for the step size d, by which nothing is to gain at the prices, and no search is at work
-pub record IsReady (net : Network) (slopes : List Slope) (d : ℕ) (flow : List ℕ) (t : Tables) : Type 0 where
+-- there are quotes for the step size d at the flow
+pub record IsSet (net : Network) (slopes : List Slope) (d : ℕ) (flow : List ℕ) (t : Tables) : Type 0 where
   pub tracked : IsTracked net flow t.spots.items
-  pub priced : IsPriced square net d flow (price_of t.spots.items)
   pub quotes : AreQuotes net slopes d flow t.quotes.items
-  pub fresh : AreFresh t.spots.items
   pub room : HasRoom net.nodes (arc_count net) t
   pub shut : vec_len t.shut ≡ net.nodes
+
+-- .. by which nothing is to gain at the prices, and no search is at work
+pub record IsReady (net : Network) (slopes : List Slope) (d : ℕ) (flow : List ℕ) (t : Tables) : Type 0 where
+  pub set : IsSet net slopes d flow t
+  pub priced : IsPriced square net d flow (price_of t.spots.items)
+  pub fresh : AreFresh t.spots.items
 
 -- all prices are at most b either way
 abbrev pub AreWithin : ℕ → List Spot → Type 0

@@ -15,7 +15,7 @@ loop-node-preserved c =
     let i = c.loop-node.invariant in
     let e = c.shut_node.ensures in
     let n : ℕ = get_or c.args.found.now c.loop-node.node-index 0 in
-    let m = c.requires.inside c.loop-node.node-index c.loop-node-test.true in
+    let m = c.requires.inside c.loop-node.node-index 0 c.loop-node-test.true in
     let l : n < length c.loop-node.spots = let a = i.count in omega arith in
     record {
       each = closing-more cleared_spot closure_cleared c.args.spots.now c.loop-node.spots c.shut_node.new.spots n l i.each e;
