@@ -8,6 +8,6 @@ invariant-loop-v l = record {
   ready : IsReady l.body.net.now l.body.slopes.now l.step l.flow l.tables;
   done : l.step ≡ 1 → (v : ℕ) → v < l.v → (spot_at l.tables.spots.items v).excess ≤ℤ pos 0;
   floor : (b : ℕ) → AreWithin b l.fn.tables.spots.items → IsFloored l.step b l.tables.spots.items;
-  open : l.step ≡ 1 → (v : ℕ) → get_or l.tables.shut.items v false ≡ false;
+  unshut : l.step ≡ 1 → (v : ℕ) → get_or l.tables.shut.items v false ≡ false;
   room : (n m : ℕ) → HasRoom n m l.fn.tables → HasRoom n m l.tables;
 }
