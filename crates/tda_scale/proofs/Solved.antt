@@ -1,6 +1,8 @@
 -- What is left after the last phase.
-use Rattle.std.proofs.Common.{◌≡◌, ℕ, ◌+◌, ◌^◌, ◌<◌, ◌≤◌, ℤ, pos, ◌+ℤ◌, ◌-ℤ◌, ◌*ℤ◌, ◌≤ℤ◌, refl, sym, ap, subst, ◌∙◌, Bool, true, false, cond, List, length, replicate, arith}
+use Rattle.std.proofs.Common.{◌≡◌, ℕ, suc, ◌+◌, ◌-◌, ◌^◌, ◌<◌, ◌≤◌, ℤ, pos, ◌+ℤ◌, ◌-ℤ◌, ◌*ℤ◌, ◌≤ℤ◌, refl, sym, ap, subst, ◌∙◌, Bool, true, false, cond, List, length, replicate, inl, inr, arith}
 use Rattle.std.proofs.lemmas.Int.{ints}
+use Rattle.std.proofs.Math.Nat.{two-pow-succ}
+use Rattle.std.proofs.Math.Pow.{pow_mono}
 use Rattle.std.proofs.lemmas.Bool.{cases_lt}
 use Rattle.std.proofs.lemmas.List.{get_or_past, get_or-replicate, length-replicate}
 use Rattle.tda_loss.specs.declared.Curve.{Curve}
@@ -17,7 +19,8 @@ use Rattle.tda_scale.specs.Spots.{is_found, spot_at, no_spot}
 use Rattle.tda_scale.specs.Priced.{turn_gap, IsPriced}
 use Rattle.tda_scale.specs.Searching.{price_of, AreFresh}
 use Rattle.tda_scale.specs.Tracked.{IsTracked}
-use Rattle.tda_scale.specs.Phase.{square, AreWithin}
+use Rattle.tda_scale.specs.declared.tables.Tables.{Tables}
+use Rattle.tda_scale.specs.Phase.{square, AreWithin, HasRoom}
 use Rattle.tda_scale.proofs.Arcs.{priced_high, certified_of_priced}
 use Rattle.tda_scale.proofs.Closed.{circulates}
 
@@ -28,7 +31,11 @@ circulates_at_end net flow spots sound h none =
 
 -- a solve begins with all prices 0
 fresh_at : (n v : ℕ) → spot_at (replicate n no_spot) v ≡ no_spot
-fresh_at n v = get_or-replicate n v no_spot
+fresh_at n v =
+    elim (cases_lt v n) [
+      | inl l ↦ get_or-replicate n v no_spot no_spot l
+      | inr past ↦ get_or_past (replicate n no_spot) v no_spot (let e = length-replicate n no_spot in omega (arith, e))
+    ]
 
 pub begun_fresh : (n : ℕ) (spots : List Spot) → spots ≡ replicate n no_spot → AreFresh spots
 begun_fresh n spots e v = ap (λ z. is_found (spot_at z v).mark) e ∙ ap (λ (s : Spot). is_found s.mark) (fresh_at n v)
@@ -89,3 +96,36 @@ solved net flow spots prices sound nodes size priced small is = record {
         inside : (b : Bool) (x y : ℕ) → x < net.nodes → y < net.nodes → cond b x y < length spots
         inside true x y l m = omega arith
         inside false x y l m = omega arith
+
+-- step sizes
+pub power_double : (n d : ℕ) → 1 ≤ n → d ≡ 2 ^ (n - 1) → d + d ≡ 2 ^ n
+power_double n d l e =
+    let k : ℕ = n - 1 in
+    let s : suc k ≡ n = omega arith in
+    let p : 2 ^ suc k ≡ 2 ^ k + 2 ^ k = two-pow-succ k in
+    subst (λ z. d + d ≡ 2 ^ z) s (omega (arith, p, e))
+
+pub power_small : (n d : ℕ) → n ≤ 30 → d ≡ 2 ^ n → (1 ≤ d) × (d ≤ 2 ^ 30)
+power_small n d l e =
+    let a : 2 ^ n ≤ 2 ^ 30 = pow_mono {i = n} {j = 30} l in
+    let b : 2 ^ 0 ≤ 2 ^ n = pow_mono {i = 0} {j = n} (omega arith) in
+    (omega (arith, b, e), omega (arith, a, e))
+
+pub power_one : (n d : ℕ) → n ≡ 0 → d ≡ 2 ^ n → d ≡ 1
+power_one n d z e = e ∙ ap (λ k. 2 ^ k) z
+
+pub wider : (a b : ℕ) (spots : List Spot) → a ≤ b → AreWithin a spots → AreWithin b spots
+wider a b spots l h v = let k = h v in record { low = omega (arith, ints, k.low); high = omega (arith, ints, k.high) }
+
+pub certified_curve : (curve : Curve) (net : Network) (flow : List ℕ) (prices : List ℤ) → IsCertified square net flow prices → IsCertified (value_of curve) net flow prices
+certified_curve Square net flow prices h = h
+
+pub room_less : (n m n' m' : ℕ) (t : Tables) → n' ≤ n → m' ≤ m → HasRoom n m t → HasRoom n' m' t
+room_less n m n' m' t l k h = record {
+  spots = let a = h.spots in omega arith;
+  quotes = let a = h.quotes in omega arith;
+  shut = let a = h.shut in omega arith;
+  queue = let a = h.queue in omega arith;
+  found = let a = h.found in omega arith;
+  walk = let a = h.walk in omega arith;
+}

@@ -71,6 +71,14 @@ impl Scale {
     }
 }
 
+// The step size 2^shift.
+fn step_size(shift: u32) -> u64
+    requires { shift ≤ 30 }
+    ensures { result ≡ 2 ^ shift }
+{
+    1 << shift
+}
+
 // All phases from the one of half the step size 2^first on. At twice the first step size the prices are
 // right.
 fn run_phases(body: &Body, first: u32, flow: &mut [u64], tables: &mut Tables)
@@ -95,7 +103,7 @@ fn run_phases(body: &Body, first: u32, flow: &mut [u64], tables: &mut Tables)
     let mut left = first;
     while left > 0 {
         left -= 1;
-        phase(body, 1 << left, flow, tables);
+        phase(body, step_size(left), flow, tables);
     }
 }
 
