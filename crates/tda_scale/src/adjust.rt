@@ -51,10 +51,7 @@ fn gaining(quote: &Quote, gap: i128, i: usize) -> Option<Turn>
         });
     }
     if pays(quote.down, -gap) {
-        return Some(Turn {
-            arc: i,
-            back: true,
-        });
+        return Some(Turn { arc: i, back: true });
     }
     None
 }

@@ -63,7 +63,15 @@ fn carry(
     let turns = &mut walk[..spot.depth as usize];
     trace(body.net, spots, piece.target, turns);
     reprice(found, spot.label, spots);
-    send(body.net, turns, piece.source, piece.target, piece.step, flow, spots);
+    send(
+        body.net,
+        turns,
+        piece.source,
+        piece.target,
+        piece.step,
+        flow,
+        spots,
+    );
     requote(body, piece.step, flow, turns, quotes);
 }
 
@@ -92,7 +100,14 @@ fn improve(body: &Body, step: u64, source: u32, flow: &mut [u64], tables: &mut T
         quotes: &tables.quotes,
     };
     let spots = &mut tables.spots;
-    let found = search(&field, source, step, spots, &mut tables.queue, &mut tables.found);
+    let found = search(
+        &field,
+        source,
+        step,
+        spots,
+        &mut tables.queue,
+        &mut tables.found,
+    );
     let Some(target) = found else {
         shut_found(&tables.found, &mut tables.spots, &mut tables.shut);
         return false;
@@ -103,7 +118,15 @@ fn improve(body: &Body, step: u64, source: u32, flow: &mut [u64], tables: &mut T
         step,
     };
     let spots = &mut tables.spots;
-    carry(body, piece, &tables.found, flow, spots, &mut tables.quotes, &mut tables.walk);
+    carry(
+        body,
+        piece,
+        &tables.found,
+        flow,
+        spots,
+        &mut tables.quotes,
+        &mut tables.walk,
+    );
     true
 }
 

@@ -34,7 +34,7 @@ loop-v-preserved c =
             done =
                 λ one k l.
                 elim (cases_eq k c.loop-v.v) [
-                  | inl e ↦ 
+                  | inl e ↦
                       let inside : c.loop-v.v < length c.loop-v.tables.shut.items =
                       let a = i.ready.set.shut in
                       let b = c.loop-v.tables.shut.ok.0 in
