@@ -1,8 +1,9 @@
+// Nets that are solved by closed walks, and what they come to.
 ghost use Rattle.std.specs.Prelude.{◌≤◌, ◌^◌, slice_index, IsTrue, EachIndex};
 ghost use Rattle.tda_flow.specs.Certificate.{ArePrices};
 
-use crate::Cancel;
 use std::alloc::Global;
+use tda_cancel::Cancel;
 use tda_flow::{Arc, Net, Solver, Term, certified, is_circulation};
 use tda_io::{NoMemory, PERSONS};
 use tda_loss::{Curve, Loss, square};

@@ -2,9 +2,9 @@
 ghost use Rattle.std.specs.Prelude.{◌≡◌, length, IfOk};
 ghost use Rattle.tda_flow.specs.Network.{arc_count};
 
-use crate::{Arc, Net, Turn, Work, move_along, reach};
 use std::alloc::Global;
 use std::test::Fail;
+use tda_flow::{Arc, Net, Turn, Work, move_along, reach};
 use tda_io::NoMemory;
 
 const FLOW: [u64; 5] = [2, 0, 4, 0, 0];

@@ -1,4 +1,5 @@
-use crate::{Curve, Loss, square};
+// Squares of distances, and their steps.
+use tda_loss::{Curve, Loss, square};
 
 const NEAR: i64 = 1 << 32;
 

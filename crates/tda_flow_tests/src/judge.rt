@@ -1,8 +1,9 @@
+// What the judge of prices says, and what nets hold.
 ghost use Rattle.std.specs.Prelude.{◌≤◌, ◌^◌, false, slice_index, IsTrue, EachIndex};
 ghost use Rattle.tda_flow.specs.Certificate.{ArePrices};
 
-use crate::{Arc, BadArc, Net, Side, Term, certified, is_circulation, step_cost};
 use std::alloc::Global;
+use tda_flow::{Arc, BadArc, Net, Side, Term, certified, is_circulation, step_cost};
 use tda_io::{NoMemory, PERSONS};
 use tda_loss::{Curve, Loss, square};
 
