@@ -131,7 +131,6 @@ fn numbers_names_and_texts(rt: HostRuntime) -> Result<(), Fail> {
 }
 
 // A whole text in two pieces.
-#[tactic(auto, using(tda_io::proofs::Trays::begun_open, tda_io::proofs::Trays::grown_open))]
 fn write<O: Outbox>(outbox: &mut O, name: &str, first: &[u8], second: &[u8]) -> Result<(), OutFault>
     requires told { IfSome (O.told outbox.old) (IsNew name.now) }
     requires room { O.faults outbox.old < 2 ^ 64 - 1 }
