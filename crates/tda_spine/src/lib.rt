@@ -19,6 +19,3 @@ pub use fault::SpineFault;
 pub use fit_size::FitSize;
 pub use read::read_spine;
 pub use spine::Spine;
-
-#[cfg(test)]
-mod tests;
