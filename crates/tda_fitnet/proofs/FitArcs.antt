@@ -1,5 +1,5 @@
 -- The arcs that are pushed, row by row, are those of the networks.
-use Rattle.std.proofs.Common.{◌≡◌, ℕ, ◌+◌, List, [], ◌++◌, length, slice_index, refl, sym, ap, ◌∙◌}
+use Rattle.std.proofs.Common.{◌≡◌, ℕ, ◌+◌, List, ◌++◌, length, slice_index, sym, ap, ◌∙◌}
 use Rattle.std.proofs.lemmas.List.{append_assoc, append-nil}
 use Rattle.tda_model.specs.Cells.{kind_of, possible_cells}
 use Rattle.tda_model.specs.Bounds.{persons_limit}
@@ -9,7 +9,7 @@ use Rattle.tda_schema.specs.Stated.{level_at}
 use Rattle.tda_groups.specs.Order.{group_at}
 use Rattle.tda_fitnet.specs.declared.layout.Layout.{Layout}
 use Rattle.tda_fitnet.specs.Layout.{row, rows, source_node, kind_node}
-use Rattle.tda_fitnet.specs.Arcs.{NamedArc, source_arc, give_arc, states, root_layout, root_arcs, split_layout, split_arcs}
+use Rattle.tda_fitnet.specs.Arcs.{NamedArc, source_arc, give_arc, group_arc, states, root_layout, root_arcs, split_layout, split_arcs}
 use Rattle.tda_fitnet.specs.Rows.{count_arcs, all_gives, all_groups, total_arcs, all_shares, nation_gives, nation_groups}
 
 pub split_arcs_are : (i : Inputs) (groups : List (List ℕ)) (p : ℕ) (counts : List ℕ) (l : Layout) → group_at groups 0 ≡ possible_cells i.schema → l ≡ split_layout i groups p
@@ -46,4 +46,4 @@ root_arcs_are i groups l all e =
     ∙ append_assoc totals shares (nation_gives i.schema L groups nation ++ passes)
     ∙ ap over all
     ∙ ap (λ xs. totals ++ (shares ++ (xs ++ passes))) (sym (one_row (length cells) (give cells)))
-    ∙ ap (λ xs. totals ++ (shares ++ (rows 1 (length cells) (give cells) ++ xs))) (sym (one_row (length groups) _))
+    ∙ ap (λ xs. totals ++ (shares ++ (rows 1 (length cells) (give cells) ++ xs))) (sym (one_row (length groups) (λ u g. group_arc i L groups level u nation g 0 persons_limit)))

@@ -1,11 +1,11 @@
 -- What the parts of the nets are given: bounds in order, what circulations stand for, and how large the layouts are.
-use Rattle.std.proofs.Common.{◌≡◌, ℕ, zero, ◌+◌, ◌*◌, ◌<◌, ◌≤◌, List, length, All, refl, sym, ap, ◌∙◌, subst, arith, mul-comm}
+use Rattle.std.proofs.Common.{◌≡◌, ℕ, zero, ◌+◌, ◌*◌, ◌<◌, ◌≤◌, List, length, All, refl, sym, ap, ◌∙◌, subst, arith, mul_comm}
 use Rattle.std.proofs.Math.Nat.{le-mul_of_pos_right}
 use Rattle.std.proofs.lemmas.List.Elements.{All-from_get_or}
 use Rattle.tda_model.specs.Schema.{Schema}
-use Rattle.tda_model.specs.Cells.{cell_count, possible_cells}
+use Rattle.tda_model.specs.Cells.{cell_count, kind_of, possible_cells}
 use Rattle.tda_model.specs.Groups.{kind_count}
-use Rattle.tda_model.specs.Spine.{Spine, level_of, children_of, units_at}
+use Rattle.tda_model.specs.Spine.{Spine, level_of, nation_of, children_of, units_at}
 use Rattle.tda_model.specs.Tables.{Table, persons_in}
 use Rattle.tda_model.specs.Bounds.{persons_limit}
 use Rattle.tda_model.specs.Release.{Inputs, CanBe}
@@ -19,9 +19,10 @@ use Rattle.tda_groups.specs.Order.{group_at}
 use Rattle.tda_groups.specs.Tree.{Tree, IsTreeOf}
 use Rattle.std.specs.Prelude.{ℤ}
 use Rattle.tda_fitnet.specs.declared.layout.Layout.{Layout}
-use Rattle.tda_fitnet.specs.Layout.{node_number, arc_number}
+use Rattle.tda_fitnet.specs.Layout.{node_number, arc_number, source_node, kind_node}
+use Rattle.tda_fitnet.specs.Terms.{group_low, group_high}
 use Rattle.tda_fitnet.specs.Inputs.{inputs_of}
-use Rattle.tda_fitnet.specs.Arcs.{NamedArc, split_network, root_network, split_layout, root_layout, split_arcs, root_arcs}
+use Rattle.tda_fitnet.specs.Arcs.{NamedArc, source_arc, share_arc, give_arc, group_arc, state_at, cell_at, child_at, split_network, root_network, split_layout, root_layout, split_arcs, root_arcs}
 use Rattle.tda_fitnet.specs.NamedNetwork.{NamedNetwork}
 use Rattle.tda_fitnet.specs.FitNetwork.{FitNetwork, IsKept, root_fit, split_fit}
 use Rattle.tda_fitnet.specs.Rows.{AreOrdered}
@@ -71,10 +72,9 @@ module _ (s : Schema) (sp : Spine) (limits : IsWithinLimits s sp) (inv : JoinedL
     children_few = at_most (length (children_of sp p)) (length t.groups) is.groups.some split_nodes_few
       where
         at_most : (a g : ℕ) → 1 ≤ g → 1 + length (possible_cells s) + 0 + a * g ≤ 2048 → a ≤ 2048
-        at_most a g some h = omega (arith, le-mul_of_pos_right a (some_above g some), mul-comm g a)
-
-        some_above : (g : ℕ) → 1 ≤ g → zero < g
-        some_above g h = omega arith
+        at_most a g some h =
+            let above : zero < g = omega arith in
+            omega (arith, le-mul_of_pos_right a above, mul_comm g a)
 
     pub split_cells_few : length (possible_cells s) ≤ 2048
     split_cells_few = let h = split_nodes_few in omega (arith, h)
@@ -109,6 +109,22 @@ module _ (s : Schema) (sp : Spine) (limits : IsWithinLimits s sp) (inv : JoinedL
         ∙ ap (made (possible_cells s) (units_at sp 1) (kind_count s)) d
 
 -- ---- a network of a fit from its parts
+split_arc_list : (i : Inputs) (groups : List (List ℕ)) (p : ℕ) (x : Table) → length (split_arcs i groups p x) ≡ arc_number (split_layout i groups p)
+split_arc_list i groups p x =
+    let l = split_layout i groups p in
+    length_all l (λ r. source_arc r (x (cell_at i r))) (λ n k. share_arc i l n n k)
+    (λ u r. give_arc l groups (source_node r) u (child_at i p u) (cell_at i r))
+    (λ u g. group_arc i l groups (level_at i.schema (level_of i.spine p + 1)) u (child_at i p u) g
+    (group_low i (child_at i p u) g (group_at groups g)) (group_high i (child_at i p u) g (group_at groups g)))
+
+root_arc_list : (i : Inputs) (groups : List (List ℕ)) → length (root_arcs i groups) ≡ arc_number (root_layout i groups)
+root_arc_list i groups =
+    let l = root_layout i groups in
+    let nation = nation_of i.spine in
+    length_all l (λ n. source_arc n (i.known.total (state_at i n))) (λ n k. share_arc i l n (state_at i n) k)
+    (λ u r. give_arc l groups (kind_node l (kind_of i.schema (cell_at i r))) u nation (cell_at i r))
+    (λ u g. group_arc i l groups (level_at i.schema 0) u nation g 0 persons_limit)
+
 kept : (f : FitNetwork) (s : Schema) (named : NamedNetwork) → named.nodes ≡ node_number f.layout → named.arcs ≡ f.arcs → length f.arcs ≡ arc_number f.layout
     → f.cells ≡ possible_cells s → f.all_cells ≡ cell_count s → length (possible_cells s) ≡ f.layout.cells → IsKept f.layout named f.cells f.all_cells
 kept f s named nodes arcs count cells all same = record {
@@ -135,11 +151,11 @@ module _ (i : Inputs) (groups : List (List ℕ)) (layout : Layout) (named : Name
     split_is = same_parts (split_layout i groups p) (split_arcs i groups p x) layout_is arcs_are
 
     pub split_kept : IsKept layout named cells all
-    split_kept = kept made i.schema named nodes refl (ap length arcs_are ∙ length_all (split_layout i groups p) _ _ _ _ ∙ sym (ap arc_number layout_is)) cells_are all_are (sym (ap (λ l. l.cells) layout_is))
+    split_kept = kept made i.schema named nodes refl (ap length arcs_are ∙ split_arc_list i groups p x ∙ sym (ap arc_number layout_is)) cells_are all_are (sym (ap (λ l. l.cells) layout_is))
 
   module _ (layout_is : layout ≡ root_layout i groups) (arcs_are : named.arcs ≡ root_arcs i groups) where
     pub root_is : made ≡ root_fit i groups
     root_is = same_parts (root_layout i groups) (root_arcs i groups) layout_is arcs_are
 
     pub root_kept : IsKept layout named cells all
-    root_kept = kept made i.schema named nodes refl (ap length arcs_are ∙ length_all (root_layout i groups) _ _ _ _ ∙ sym (ap arc_number layout_is)) cells_are all_are (sym (ap (λ l. l.cells) layout_is))
+    root_kept = kept made i.schema named nodes refl (ap length arcs_are ∙ root_arc_list i groups ∙ sym (ap arc_number layout_is)) cells_are all_are (sym (ap (λ l. l.cells) layout_is))

@@ -4,7 +4,7 @@ use Rattle.std.specs.Prelude.{IfSome, unwrap_or}
 use Rattle.std.proofs.lemmas.List.Elements.{All-from_recursion, All-from_get_or, Contains-get_or}
 use Rattle.tda_model.specs.Schema.{Schema}
 use Rattle.tda_model.specs.Cells.{cell_count, is_possible, all_cells, possible_cells}
-use Rattle.tda_model.specs.Spine.{Spine, level_of, nation_of, children_of, is_child, is_at, units_at, IsUnit, HasParent, IsTree}
+use Rattle.tda_model.specs.Spine.{Spine, level_of, nation_of, children_of, is_child, is_at, units_at, IsUnit, IsTree}
 use Rattle.tda_model.specs.Tables.{Published, persons_in}
 use Rattle.tda_model.specs.Bounds.{persons_limit}
 use Rattle.tda_invar.specs.Known.{unit_total}

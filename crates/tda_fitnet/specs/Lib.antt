@@ -1,5 +1,4 @@
 pub mod Layout
-pub mod Chains
 pub mod Terms
 pub mod Arcs
 pub mod Fits

@@ -4,7 +4,6 @@ use Rattle.tda_model.specs.Schema.{Level}
 use Rattle.tda_model.specs.Bounds.{persons_limit}
 use Rattle.tda_model.specs.Cells.{kind_of}
 use Rattle.tda_model.specs.Schema.{Schema}
-use Rattle.tda_model.specs.Tables.{Table}
 use Rattle.tda_model.specs.Release.{Inputs}
 use Rattle.tda_groups.specs.Order.{group_at}
 use Rattle.tda_fitnet.specs.declared.layout.Layout.{Layout}

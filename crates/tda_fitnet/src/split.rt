@@ -238,7 +238,9 @@ pub fn split_net(
 {
     let layout = split_layout(schema, tree, spine, parent);
     let mut named = NamedNet::new(alloc, layout.nodes());
-    push_split(&mut named, schema, tree, spine, inv, m, layout, parent, table)?;
+    push_split(
+        &mut named, schema, tree, spine, inv, m, layout, parent, table,
+    )?;
     let cells = tree.members(0).to_vec(alloc)?;
     let fit = FitNet::new(layout, named, cells, schema.cells());
     let _ = fit.net();

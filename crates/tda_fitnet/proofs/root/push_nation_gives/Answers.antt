@@ -1,7 +1,6 @@
 -- One more cell.
-use Rattle.std.proofs.Common.{◌≡◌, ◌<◌, ◌≤◌, ◌+◌, ◌∷◌, [], ◌++◌, ℕ, List, All, length, slice_index, Contains, subst, sym, ap, ◌∙◌, arith}
-use Rattle.std.proofs.lemmas.List.Elements.{Contains-get_or}
-use Rattle.tda_model.specs.Cells.{kind_of, cell_count, possible_cells}
+use Rattle.std.proofs.Common.{◌+◌, ◌∷◌, [], ◌++◌, ℕ, length, slice_index, ap, ◌∙◌, arith}
+use Rattle.tda_model.specs.Cells.{kind_of}
 use Rattle.tda_groups.specs.Order.{group_at}
 use Rattle.tda_fitnet.specs.Layout.{kind_node}
 use Rattle.tda_fitnet.specs.Arcs.{give_arc}
@@ -27,7 +26,8 @@ loop-cell-preserved c =
       c.in_ok-push_give.ensures.nodes ∙ c.loop-cell.invariant.0,
       c.in_ok-push_give.ensures.count ∙ omega (arith, c.loop-cell.invariant.1),
       c.in_ok-push_give.ensures.arcs L 0 c.first_group-base.ensures.node
-      ∙ ap (λ k. c.loop-cell.fit.arcs ++ give_arc L groups (kind_node L k) 0 c.args.nation (slice_index items r) ∷ []) c.kind_of.ensures.kind
-      ∙ ap (λ xs. c.loop-cell.fit.arcs ++ give (slice_index xs r) ∷ []) c.members-cell-items.ensures.value
-      ∙ row_more _ _ r (λ q. give (slice_index all q)) c.loop-cell.invariant.2,
+          ∙ ap (λ k. c.loop-cell.fit.arcs ++ give_arc L groups (1 + L.sources + k) 0 c.args.nation (slice_index items r) ∷ []) c.from.ensures
+          ∙ ap (λ k. c.loop-cell.fit.arcs ++ give_arc L groups (kind_node L k) 0 c.args.nation (slice_index items r) ∷ []) c.kind_of.ensures.kind
+          ∙ ap (λ xs. c.loop-cell.fit.arcs ++ give (slice_index xs r) ∷ []) c.members-cell-items.ensures.value
+          ∙ row_more _ _ r (λ q. give (slice_index all q)) c.loop-cell.invariant.2,
     )

@@ -1,10 +1,11 @@
 -- One more group.
-use Rattle.std.proofs.Common.{◌≡◌, ◌<◌, ◌≤◌, ◌+◌, ◌∷◌, [], ◌++◌, ℕ, length, subst, sym, ap, ◌∙◌, arith}
+use Rattle.std.proofs.Common.{◌≡◌, ◌<◌, ◌∷◌, [], ◌++◌, ℕ, length, subst, sym, ap, ◌∙◌, arith}
 use Rattle.tda_model.specs.Bounds.{persons_limit}
 use Rattle.tda_model.specs.Schema.{Level}
 use Rattle.tda_model.specs.Spine.{IsUnit, level_of, nation_of}
 use Rattle.tda_schema.specs.Stated.{level_at}
 use Rattle.tda_groups.specs.Tree.{IsTreeOf}
+use Rattle.tda_fitnet.specs.Layout.{row}
 use Rattle.tda_fitnet.specs.Inputs.{inputs_of}
 use Rattle.tda_fitnet.specs.Arcs.{NamedArc, group_arc}
 use Rattle.tda_fitnet.proofs.OneMore.{row_more}
@@ -46,3 +47,10 @@ loop-group-preserved c =
           ∙ ap (λ v. c.loop-group.fit.arcs ++ arc (level_at s 0) v g ∷ []) c.nation-nation.ensures.nation
           ∙ row_more _ _ g (arc (level_at s 0) (nation_of sp)) (c.loop-group.invariant.2 inv),
     )
+
+pub returns-clause-arcs : goal.returns-clause-arcs
+returns-clause-arcs c inv =
+    let groups = c.args.tree.now.groups in
+    let all : c.loop-group.group ≡ length groups = omega (arith, c.loop-group-test.false, c.loop-group.auto.group-end, c.len-group-end.ensures.count) in
+    c.loop-group.invariant.2 inv
+    ∙ ap (λ n. c.args.fit.now.arcs ++ row n (λ g. group_arc (inputs_of c.args.schema.now c.args.spine.now inv c.args.m.now) c.args.layout groups (level_at c.args.schema.now 0) 0 (nation_of c.args.spine.now) g 0 persons_limit)) all

@@ -1,9 +1,9 @@
 -- The rows are those of the nation's fit.
-use Rattle.std.proofs.Common.{◌≡◌, ◌≤◌, ◌<◌, ◌+◌, ◌*◌, ◌++◌, [], ℕ, List, length, slice_index, sym, ap, ◌∙◌, subst, arith}
+use Rattle.std.proofs.Common.{◌++◌, ap, ◌∙◌}
 use Rattle.std.proofs.lemmas.Result.{on_ok_weaker}
 use Rattle.tda_model.specs.Spine.{nation_of}
 use Rattle.tda_schema.specs.Stated.{level_at}
-use Rattle.tda_fitnet.specs.Arcs.{NamedArc, states}
+use Rattle.tda_fitnet.specs.Arcs.{states}
 use Rattle.tda_fitnet.specs.Inputs.{inputs_of}
 use Rattle.tda_fitnet.specs.Rows.{total_arcs, all_shares, nation_gives, nation_groups}
 use Rattle.tda_fitnet.proofs.FitArcs.{root_arcs_are}

@@ -1,6 +1,7 @@
 -- One more state.
-use Rattle.std.proofs.Common.{◌≡◌, ◌≤◌, ◌+◌, ◌*◌, ◌++◌, ℕ, List, length, slice_index, refl, ap, ◌∙◌, arith}
+use Rattle.std.proofs.Common.{◌≡◌, ◌++◌, length, slice_index, refl, ap, ◌∙◌, arith}
 use Rattle.tda_model.specs.Spine.{units_at}
+use Rattle.tda_fitnet.specs.Layout.{rows}
 use Rattle.tda_fitnet.specs.Inputs.{inputs_of}
 use Rattle.tda_fitnet.specs.Arcs.{share_arc}
 use Rattle.tda_fitnet.specs.Rows.{state_shares}
@@ -31,3 +32,11 @@ loop-n-preserved c =
           ∙ ap (λ xs. c.loop-n.fit.arcs ++ state_shares i L n (slice_index xs n)) c.at_level-state-items.ensures
           ∙ rows_more _ _ n L.kinds (λ v. share_arc i L v (slice_index (units_at sp 1) v)) (c.loop-n.invariant.2 m),
     )
+
+pub returns-clause-arcs : goal.returns-clause-arcs
+returns-clause-arcs c m =
+    let sp = c.args.spine.now in
+    let L = c.args.layout in
+    let all : c.loop-n.n ≡ length (units_at sp 1) = omega (arith, c.loop-n-test.false, c.loop-n.auto.n-end, ap length c.at_level-state-items.ensures) in
+    c.loop-n.invariant.2 m
+    ∙ ap (λ n. c.args.fit.now.arcs ++ rows n L.kinds (λ v. share_arc (inputs_of c.args.schema.now sp c.args.inv.now m) L v (slice_index (units_at sp 1) v))) all

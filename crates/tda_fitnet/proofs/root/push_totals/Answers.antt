@@ -1,5 +1,5 @@
 -- One more state.
-use Rattle.std.proofs.Common.{◌≡◌, ◌≤◌, ◌+◌, ◌∷◌, [], ◌++◌, ℕ, length, slice_index, subst, sym, ap, ◌∙◌, arith, length-append}
+use Rattle.std.proofs.Common.{◌≤◌, ◌∷◌, [], ◌++◌, length, slice_index, subst, sym, ap, ◌∙◌, arith, length-append}
 use Rattle.tda_model.specs.Bounds.{persons_limit}
 use Rattle.tda_model.specs.Spine.{units_at}
 use Rattle.tda_invar.specs.Known.{known_of}
@@ -38,5 +38,5 @@ loop-n-preserved c =
       ap (λ m. m.nodes) c.in_ok-push_source.ensures ∙ c.loop-n.invariant.0,
       ap length arcs ∙ length-append c.loop-n.fit.arcs _ ∙ omega (arith, c.loop-n.invariant.1),
       arcs ∙ ap (λ x. c.loop-n.fit.arcs ++ source_arc n x ∷ []) amount
-      ∙ row_more _ _ n (λ k. source_arc k (total (slice_index (units_at sp 1) k))) c.loop-n.invariant.2,
+          ∙ row_more _ _ n (λ k. source_arc k (total (slice_index (units_at sp 1) k))) c.loop-n.invariant.2,
     )

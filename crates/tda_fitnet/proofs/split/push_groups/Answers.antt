@@ -1,12 +1,12 @@
 -- One more child.
-use Rattle.std.proofs.Common.{◌≡◌, ◌≤◌, ◌<◌, ◌+◌, ◌*◌, ◌++◌, ℕ, List, length, slice_index, refl, sym, ap, ◌∙◌, subst, arith}
+use Rattle.std.proofs.Common.{◌+◌, ◌*◌, ◌++◌, length, slice_index, refl, sym, ap, ◌∙◌, subst, arith}
 use Rattle.tda_model.specs.Spine.{level_of, children_of}
 use Rattle.tda_schema.specs.Stated.{level_at}
 use Rattle.tda_groups.specs.Tree.{IsTreeOf}
 use Rattle.tda_fitnet.specs.Inputs.{inputs_of}
 use Rattle.tda_fitnet.specs.Rows.{AreOrdered, child_group, child_groups}
 use Rattle.tda_fitnet.proofs.OneMore.{rows_more, rows_room, rows_count}
-use Rattle.tda_fitnet.proofs.UnitFacts.{IsBelow, listed_below}
+use Rattle.tda_fitnet.proofs.UnitFacts.{listed_below}
 use Rattle.tda_fitnet.proofs.split.push_groups.Goals as goal
 
 pub push_child_groups-requires-clause-child : goal.push_child_groups-requires-clause-child
@@ -49,7 +49,7 @@ loop-u-preserved c =
       c.in_ok-push_child_groups.ensures.nodes ∙ c.loop-u.invariant.0,
       c.in_ok-push_child_groups.ensures.count ∙ rows_count u (length groups) (length c.args.fit.now.arcs) _ _ c.loop-u.invariant.1 refl,
       c.in_ok-push_child_groups.ensures.arcs L u c.first_group-base.ensures.node
-      ∙ ap (λ v. c.loop-u.fit.arcs ++ child_groups i L groups (level_at s v) u (slice_index items u)) below.level
-      ∙ ap (λ xs. c.loop-u.fit.arcs ++ child_groups i L groups level u (slice_index xs u)) c.children-child-items.ensures
-      ∙ rows_more _ _ u (length groups) (λ v. child_group i L groups level v (slice_index (children_of sp c.args.parent) v)) c.loop-u.invariant.2,
+          ∙ ap (λ v. c.loop-u.fit.arcs ++ child_groups i L groups (level_at s v) u (slice_index items u)) below.level
+          ∙ ap (λ xs. c.loop-u.fit.arcs ++ child_groups i L groups level u (slice_index xs u)) c.children-child-items.ensures
+          ∙ rows_more _ _ u (length groups) (λ v. child_group i L groups level v (slice_index (children_of sp c.args.parent) v)) c.loop-u.invariant.2,
     )

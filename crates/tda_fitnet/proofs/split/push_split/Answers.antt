@@ -1,5 +1,5 @@
 -- The rows are those of the split.
-use Rattle.std.proofs.Common.{◌≡◌, ◌≤◌, ◌<◌, ◌+◌, ◌*◌, ◌++◌, [], ℕ, List, All, length, slice_index, sym, ap, ◌∙◌, subst, arith}
+use Rattle.std.proofs.Common.{◌<◌, ◌+◌, ◌++◌, ℕ, List, All, slice_index, sym, ap, ◌∙◌, subst}
 use Rattle.std.proofs.lemmas.Result.{on_ok_weaker}
 use Rattle.tda_model.specs.Spine.{level_of, children_of}
 use Rattle.tda_schema.specs.Stated.{level_at}
