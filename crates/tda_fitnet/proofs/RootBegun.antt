@@ -20,7 +20,7 @@ use Rattle.tda_groups.specs.Tree.{Tree, IsTreeOf}
 use Rattle.tda_fitnet.specs.declared.name.ArcName.TheVariants.{Share, Give, Group}
 use Rattle.tda_fitnet.specs.declared.layout.Layout.{Layout}
 use Rattle.tda_fitnet.specs.Layout.{arc_number, kind_node, share_place, give_place, group_place, group_node}
-use Rattle.tda_fitnet.specs.Chains.{has_cell, smallest_of, next_of}
+use Rattle.tda_groups.specs.Chains.{has_cell, smallest_of, next_of}
 use Rattle.tda_fitnet.specs.Terms.{terms_of}
 use Rattle.tda_fitnet.specs.Arcs.{states, state_at, cell_at, root_layout, root_network}
 use Rattle.tda_fitnet.specs.Fits.{group_sum, AreShares, root_flow}
