@@ -39,7 +39,7 @@ use Rattle.tda_fitnet.proofs.SplitFit.{rank_in, cell_can, cell_in, cell_rank, is
 use Rattle.tda_fitnet.proofs.SplitGiven.{kind_cells_part}
 use Rattle.tda_fitnet.proofs.UnitFacts.{listed_state}
 use Rattle.tda_fitnet.proofs.RootFit.{from_low, from_high, small_in, down, same_states, root_as}
-use Rattle.tda_fitnet.proofs.RootStart.{plain_table, plain_are_shares}
+use Rattle.tda_fitnet.proofs.RootStart.{plain_enough, plain_not_more, plain_totals}
 use Rattle.tda_fitnet.proofs.Grouped.{comes_to_group, grouped}
 
 module _ (i : Inputs) (tree : IsTree i.spine (nation_of i.spine)) (has : HasKinds i.schema) (most : MostHolds i.known)
@@ -100,9 +100,6 @@ module _ (i : Inputs) (tree : IsTree i.spine (nation_of i.spine)) (has : HasKind
   abbrev C : ℕ
   C = length (possible_cells i.schema)
 
-  plain_are : AreShares i (plain_table i tree has most suffice) plain
-  plain_are = plain_are_shares i tree has most suffice
-
   module _ (flow : List ℕ) (g : IsRootGiven fit flow) where
     abbrev give : ℕ → ℕ
     give r = slice_index flow (S + S * K + r)
@@ -118,9 +115,9 @@ module _ (i : Inputs) (tree : IsTree i.spine (nation_of i.spine)) (has : HasKind
 
     are : AreShares i table plain
     are = record {
-      enough = plain_are.enough;
-      not_more = plain_are.not_more;
-      totals = plain_are.totals;
+      enough = plain_enough i tree has most suffice;
+      not_more = plain_not_more i tree has most suffice;
+      totals = plain_totals i tree has most suffice;
       kinds = λ k lk.
           sum_by_index (λ st. plain st k) (states i) 0
           ∙ sym (g.kinds k lk)
@@ -186,7 +183,7 @@ module _ (i : Inputs) (tree : IsTree i.spine (nation_of i.spine)) (has : HasKind
         | inl share ↦
             let q = split_place S K (k - S) (omega arith) in
             let at : S + (q.0 * K + q.1) ≡ k = omega (arith, q.4) in
-            subst (λ n. slice_index flow n ≤ persons_limit) at (within _ _ _ (g.shares q.0 q.1 q.2 q.3) (plain_are.not_more q.0 q.1 q.2 q.3) (high_few (state_at i q.0) q.1))
+            subst (λ n. slice_index flow n ≤ persons_limit) at (within _ _ _ (g.shares q.0 q.1 q.2 q.3) (plain_not_more i tree has most suffice q.0 q.1 q.2 q.3) (high_few (state_at i q.0) q.1))
         | inr past ↦
             let at : S + S * K + (k - (S + S * K)) ≡ k = omega arith in
             subst (λ n. slice_index flow n ≤ persons_limit) at (give_few (k - (S + S * K)) (omega arith))

@@ -7,7 +7,7 @@ use Rattle.tda_model.proofs.Shares.{sum_range_more}
 use Rattle.tda_invar.specs.Known.{known_of}
 use Rattle.tda_model.specs.Bounds.{persons_limit}
 use Rattle.tda_fitnet.specs.Inputs.{inputs_of}
-use Rattle.tda_fitnet.proofs.RootStart.{plain_are_shares}
+use Rattle.tda_fitnet.proofs.RootStart.{plain_not_more}
 use Rattle.tda_fitnet.proofs.UnitFacts.{listed_state}
 use Rattle.tda_fitnet.specs.Plain.{plain_at}
 use Rattle.tda_fitnet.proofs.Ranges.{place_below}
@@ -23,12 +23,11 @@ put_state-requires-clause-few c = λ k lk.
     let sp = c.args.spine.now in
     let known = known_of sp c.args.inv.now in
     let j = c.requires.joined in
-    let plain = plain_are_shares (inputs_of s sp c.args.inv.now []) j.tree j.kinds j.most j.suffice in
     let low : c.loop-n.n < length (units_at c.args.spine.now 1) = omega (arith, c.loop-n-test.true, ap length c.at_level-n-end.ensures) in
     let each : (m : ℕ) → m < c.loop-n.n → plain_at s sp known m k ≤ persons_limit = λ m l.
     let in_range : m < length (units_at c.args.spine.now 1) = omega (arith, l, low) in
     let st = listed_state sp (units_at c.args.spine.now 1) refl m in_range in
-    let most = plain.not_more m k in_range lk in
+    let most = plain_not_more (inputs_of s sp c.args.inv.now []) j.tree j.kinds j.most j.suffice m k in_range lk in
     let few = j.fits.limited (slice_index (units_at c.args.spine.now 1) m) k st.here lk in
     through _ _ _ most few in
     let all = below_limit c.loop-n.n persons_limit (λ m. plain_at s sp known m k) each in
