@@ -1,5 +1,5 @@
 -- Where a number stands first in a list.
-use Rattle.std.proofs.Common.{◌≡◌, ◌⊎◌, ℕ, zero, suc, ◌+◌, ◌*◌, ◌<◌, ◌≤◌, Bool, true, false, cond, ◌==◌, eqb, nat_lt, Some, None, List, length, get_or, slice_index, set, refl, sym, ap, ◌∙◌, subst, inl, inr, arith, ne_eqb, eq-eqb, lt-ltb, le-ltb, get_or-set_other, get_or-set_same, length-set}
+use Rattle.std.proofs.Common.{◌≡◌, ◌⊎◌, ℕ, zero, suc, ◌+◌, ◌*◌, ◌<◌, ◌≤◌, cond, ◌==◌, nat_lt, Some, None, List, length, slice_index, set, refl, sym, ap, ◌∙◌, inl, inr, arith, ne_eqb, eq-eqb, lt-ltb, le-ltb, get_or-set_other, get_or-set_same, length-set}
 use Rattle.std.specs.Prelude.{position}
 use Rattle.std.specs.List.{position_or_len}
 use Rattle.std.proofs.lemmas.Bool.{cases_eq}
@@ -25,7 +25,7 @@ first_or_none cells j zero l = inr (λ q a b e. omega arith)
 first_or_none cells j (suc n) l = elim (first_or_none cells j n (omega arith)) [
   | inl found ↦ inl found
   | inr none ↦ elim (cases_eq (slice_index cells n) j) [
-    | inl e ↦ inl (n, record { from = omega arith; within = omega arith; is = e; before = none; })
+    | inl e ↦ inl (n, record { from = omega arith; within = omega arith; is = e; before = none })
     | inr ne ↦ inr (λ q a b e. elim (cases_eq q n) [ inl same ↦ ne (ap (slice_index cells) (sym same) ∙ e) | inr other ↦ none q a (omega arith) e ])
   ]
 ]
@@ -72,7 +72,7 @@ written_more cells flow start first old m counts low room h = record {
         ap (λ v. slice_index (set counts place value) (start + v)) (sym here) ∙ get_or-set_same counts place value 0 (omega (arith, h.count)) ∙ ap (λ v. slice_index flow (first + v)) (sym e)
     | inr ne ↦
         get_or-set_other counts place (start + j) value 0 (λ e. f.before m (omega arith) (omega (arith, f.from)) (omega arith))
-        ∙ h.own j q (record { from = omega (arith, f.from); within = f.within; is = f.is; before = λ r a b. f.before r (omega arith) b; })
+        ∙ h.own j q (record { from = omega (arith, f.from); within = f.within; is = f.is; before = λ r a b. f.before r (omega arith) b })
   ];
   absent = λ j a. get_or-set_other counts place (start + j) value 0 (λ e. a m (omega arith) low (omega arith)) ∙ h.absent j (λ q from till. a q (omega arith) till);
   outside = λ k a. get_or-set_other counts place k value 0 (a m low) ∙ h.outside k a;

@@ -1,5 +1,5 @@
 -- What cells are given where the first cell of each kind takes all of its kind.
-use Rattle.std.proofs.Common.{◌≡◌, ◌⊎◌, ℕ, suc, ◌+◌, ◌<◌, ◌≤◌, cond, eqb, List, length, get_or, set, refl, sym, ap, ◌∙◌, inl, inr, arith, ne_eqb, eq-eqb, get_or-set_other, get_or-set_same, length-set}
+use Rattle.std.proofs.Common.{◌≡◌, ℕ, suc, ◌+◌, ◌<◌, ◌≤◌, cond, List, length, get_or, set, sym, ap, ◌∙◌, inl, inr, arith, ne_eqb, eq-eqb, get_or-set_other, get_or-set_same}
 use Rattle.std.proofs.lemmas.Bool.{cases_eq}
 use Rattle.tda_fitnet.specs.Giving.{kind_part}
 use Rattle.tda_fitnet.proofs.GivenOut.{part_same, part_more}

@@ -1,9 +1,8 @@
 -- The counts and shares that are read off the flows of families and of tables of the nation.
-use Rattle.std.proofs.Common.{◌≡◌, ℕ, zero, suc, ◌+◌, ◌*◌, ◌<◌, ◌≤◌, true, false, ◌==◌, List, [], ◌∷◌, ◌++◌, length, map, get_or, slice_index, All, refl, sym, ap, ◌∙◌, subst, inl, inr, arith}
+use Rattle.std.proofs.Common.{◌≡◌, ℕ, zero, suc, ◌+◌, ◌<◌, ◌≤◌, ◌==◌, List, [], ◌∷◌, ◌++◌, length, map, get_or, slice_index, refl, sym, ap, ◌∙◌, inl, inr, arith}
 use Rattle.std.specs.Prelude.{position, Some, None}
 use Rattle.std.specs.List.{range_with_len, flat_map}
 use Rattle.std.proofs.lemmas.Bool.{cases_Bool}
-use Rattle.tda_model.specs.Schema.{Schema}
 use Rattle.tda_model.specs.Cells.{cell_count, is_possible, possible_cells}
 use Rattle.tda_model.specs.Groups.{kind_count}
 use Rattle.tda_model.specs.Spine.{nation_of, children_of, units_at}
@@ -11,8 +10,7 @@ use Rattle.tda_model.specs.Tables.{Table, Tables}
 use Rattle.tda_model.specs.First.{counts_of, family_counts}
 use Rattle.tda_model.specs.Least.{IsFamily}
 use Rattle.tda_model.specs.Release.{Inputs, CanBe}
-use Rattle.tda_fitnet.specs.declared.layout.Layout.{Layout}
-use Rattle.tda_fitnet.specs.Layout.{row, rows, give_place, share_place}
+use Rattle.tda_fitnet.specs.Layout.{row, give_place, share_place}
 use Rattle.tda_fitnet.specs.Arcs.{state_at, cell_at, child_at, root_layout, split_layout}
 use Rattle.tda_fitnet.specs.Fits.{group_sum, AreShares, AreListedShares, root_flow, split_flow}
 use Rattle.tda_fitnet.specs.FitNetwork.{root_fit, split_fit, flow_count, flow_counts, flow_shares}
@@ -20,7 +18,7 @@ use Rattle.tda_fitnet.proofs.Ranges.{length_rows, get_rows, at_give, at_share}
 use Rattle.tda_fitnet.proofs.GroupBounds.{Vanishes}
 use Rattle.tda_fitnet.proofs.NationShares.{attains_vanishes}
 use Rattle.tda_fitnet.proofs.SplitFit.{is_cell}
-use Rattle.tda_fitnet.proofs.Counted.{IsFirst, IsAbsent, by_position}
+use Rattle.tda_fitnet.proofs.Counted.{by_position}
 
 map_same : (f g : ℕ → ℕ) (a n : ℕ) → ((j : ℕ) → a ≤ j → j < a + n → f j ≡ g j) → map f (range_with_len a n) ≡ map g (range_with_len a n)
 map_same f g a zero h = refl

@@ -1,10 +1,10 @@
 -- What a unit has after the first cells gave to it.
-use Rattle.std.proofs.Common.{◌≡◌, ◌⊎◌, ℕ, zero, suc, ◌+◌, ◌-◌, ◌<◌, ◌≤◌, ◌≢◌, ◌^◌, min, Bool, true, false, cond, eqb, List, length, get_or, set, refl, sym, ap, ◌∙◌, subst, inl, inr, arith, ne_eqb, eq-eqb, get_or-set_other, get_or-set_same, length-set}
-use Rattle.std.proofs.lemmas.Bool.{cases_eq, cases_lt}
+use Rattle.std.proofs.Common.{◌≡◌, ◌⊎◌, ℕ, suc, ◌+◌, ◌-◌, ◌<◌, ◌≤◌, ◌≢◌, ◌^◌, min, Bool, true, false, cond, eqb, List, length, get_or, set, refl, sym, ap, ◌∙◌, subst, inl, inr, arith, ne_eqb, eq-eqb, get_or-set_other, get_or-set_same, length-set}
+use Rattle.std.proofs.lemmas.Bool.{cases_eq}
 use Rattle.std.specs.List.{sum_by, range_with_len}
 use Rattle.tda_model.specs.Bounds.{persons_limit}
 use Rattle.tda_model.proofs.Shares.{sum_range_more}
-use Rattle.tda_model.proofs.Sums.{sum_same, sum_le, sum_zero, each_range, each_any}
+use Rattle.tda_model.proofs.Sums.{sum_same, sum_le, each_range, each_any}
 use Rattle.tda_fitnet.proofs.Ranges.{below, below_add}
 use Rattle.tda_fitnet.specs.Giving.{kind_part, IsGiven}
 

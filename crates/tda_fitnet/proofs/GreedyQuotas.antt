@@ -1,7 +1,7 @@
 -- Where each unit takes of the spare persons as many as it may, all are given out, and each unit has what it must and may.
-use Rattle.std.proofs.Common.{◌≡◌, ℕ, zero, suc, ◌+◌, ◌-◌, ◌<◌, ◌≤◌, min, refl, sym, ap, ◌∙◌, arith}
-use Rattle.std.specs.List.{sum_by, range_with_len}
-use Rattle.tda_model.proofs.Sums.{sum_add, sum_same, each_range}
+use Rattle.std.proofs.Common.{◌≡◌, ℕ, zero, suc, ◌+◌, ◌-◌, ◌<◌, ◌≤◌, min, sym, ap, ◌∙◌, arith}
+use Rattle.std.specs.List.{range_with_len}
+use Rattle.tda_model.proofs.Sums.{sum_add}
 use Rattle.tda_model.proofs.Shares.{sum_range_more}
 use Rattle.tda_fitnet.specs.Giving.{leeway, spare_left, greedy_quota}
 use Rattle.tda_fitnet.proofs.Ranges.{below, below_same}

@@ -1,10 +1,9 @@
 -- The shares of the states are quotas of the nation's children, and give out all persons of each kind.
-use Rattle.std.proofs.Common.{◌≡◌, ℕ, ◌+◌, ◌*◌, ◌<◌, ◌≤◌, Bool, true, cond, List, [], ◌∷◌, length, slice_index, filter, refl, sym, ap, ◌∙◌, subst, inl, inr, arith, eq-eqb, ne_eqb}
-use Rattle.std.specs.List.{sum_by, range_with_len}
-use Rattle.std.proofs.lemmas.Bool.{cases_Bool, eqb-true}
+use Rattle.std.proofs.Common.{◌≡◌, ℕ, ◌+◌, ◌*◌, ◌<◌, ◌≤◌, Bool, cond, List, [], ◌∷◌, length, slice_index, filter, refl, sym, ap, ◌∙◌, subst, inl, inr, arith, eq-eqb, ne_eqb}
+use Rattle.std.proofs.lemmas.Bool.{cases_Bool}
 use Rattle.tda_model.specs.Schema.{Schema}
 use Rattle.tda_model.specs.Groups.{kind_count}
-use Rattle.tda_model.specs.Spine.{Spine, level_of, nation_of, is_at, is_child, children_of, units_at, unit_numbers, IsUnit, IsTree}
+use Rattle.tda_model.specs.Spine.{Spine, nation_of, is_at, is_child, children_of, units_at, unit_numbers, IsUnit, IsTree}
 use Rattle.tda_model.specs.Tables.{Table, Published, kind_sum}
 use Rattle.tda_model.specs.Bounds.{low, high}
 use Rattle.tda_model.proofs.Sums.{Each, each_range, sum_by_index}

@@ -1,12 +1,12 @@
 -- What the flows are after so many arcs passed on theirs.
 use Rattle.std.proofs.Common.{◌≡◌, ℕ, zero, suc, ◌+◌, ◌-◌, ◌*◌, ◌^◌, ◌<◌, ◌≤◌, Bool, true, false, cond, eqb, List, length, get_or, set, refl, sym, ap, ◌∙◌, subst, inl, inr, arith, ne_eqb, eq-eqb, get_or-set_other, get_or-set_same, length-set}
-use Rattle.std.proofs.lemmas.Bool.{cases_eq, cases_lt}
+use Rattle.std.proofs.lemmas.Bool.{cases_eq}
 use Rattle.std.proofs.lemmas.List.Sums.{sum_by-cons}
 use Rattle.std.specs.List.{sum_by, range_with_len}
 use Rattle.tda_model.specs.Bounds.{persons_limit}
-use Rattle.tda_model.proofs.Sums.{sum_same, sum_add, sum_none, sum_le, sum_zero, each_range}
+use Rattle.tda_model.proofs.Sums.{sum_same, sum_add, sum_none, sum_zero, each_range}
 use Rattle.tda_model.proofs.Shares.{sum_range_more}
-use Rattle.tda_flow.specs.Network.{Network, arc_count, arc_at}
+use Rattle.tda_flow.specs.Network.{Network, arc_count}
 use Rattle.tda_fitnet.specs.GroupFlows.{end_of, arc_after, coming, passed, added, IsGrouped, GivesPassed, GroupsPassed}
 use Rattle.tda_fitnet.proofs.Ranges.{below, below_same, below_add}
 
@@ -104,7 +104,7 @@ module _ (net : Network) (first node : ℕ) where
       → sum_by (at (passed net first node k flow)) (range_with_len a n) ≤ sum_by (at flow) (range_with_len a n) + at flow k
   passed_sum flow k a n l can some count =
       let is = sum_same (at (passed net first node k flow)) (λ v. at flow v + fed flow v k) (range_with_len a n)
-          (each_range _ a n (λ v low high. (at_passed k flow some can count).2 v (omega arith))) in
+      (each_range _ a n (λ v low high. (at_passed k flow some can count).2 v (omega arith))) in
       let add = sum_add (at flow) (λ v. fed flow v k) (range_with_len a n) in
       let once = fed_once flow k a n l can some in
       omega (arith, is, add, once)

@@ -1,14 +1,12 @@
 -- Where each state has its plain shares, the nation's cells have the persons of each kind, and groups pass on what comes to them, the flow
 -- of the nation's fit is a circulation.
-use Rattle.std.proofs.Common.{◌≡◌, ◌⊎◌, ℕ, zero, suc, ◌+◌, ◌-◌, ◌*◌, ◌<◌, ◌≤◌, ◌&&◌, true, cond, eqb, nat_lt, List, length, get_or, slice_index, refl, sym, ap, ◌∙◌, subst, inl, inr, arith}
-use Rattle.std.specs.List.{sum_by, range_with_len}
+use Rattle.std.proofs.Common.{◌≡◌, ◌⊎◌, ℕ, zero, suc, ◌+◌, ◌-◌, ◌*◌, ◌<◌, ◌≤◌, cond, eqb, List, length, get_or, slice_index, refl, sym, ap, ◌∙◌, subst, inl, inr, arith}
 use Rattle.std.proofs.lemmas.Bool.{cases_lt, eqb-true}
 use Rattle.std.proofs.lemmas.List.{ext_get_or}
-use Rattle.tda_model.specs.Schema.{Schema}
-use Rattle.tda_model.specs.Cells.{cell_count, is_possible, kind_of, possible_cells}
+use Rattle.tda_model.specs.Cells.{is_possible, kind_of, possible_cells}
 use Rattle.tda_model.specs.Groups.{kind_count}
 use Rattle.tda_model.specs.Spine.{nation_of, units_at, IsTree}
-use Rattle.tda_model.specs.Tables.{Table, Tables, kind_sum, persons_in}
+use Rattle.tda_model.specs.Tables.{Table, Tables, persons_in}
 use Rattle.tda_model.specs.Bounds.{persons_limit, low, high, MostHolds, HasKinds, TotalsSuffice}
 use Rattle.tda_model.specs.Release.{Inputs, CanBe}
 use Rattle.tda_model.proofs.Sums.{sum_by_index}
@@ -19,7 +17,7 @@ use Rattle.tda_groups.specs.Order.{group_at}
 use Rattle.tda_groups.specs.Tree.{Tree, IsTreeOf}
 use Rattle.tda_fitnet.specs.declared.name.ArcName.TheVariants.{Share, Give, Group}
 use Rattle.tda_fitnet.specs.declared.layout.Layout.{Layout}
-use Rattle.tda_fitnet.specs.Layout.{arc_number, kind_node, share_place, give_place, group_place, group_node}
+use Rattle.tda_fitnet.specs.Layout.{arc_number, kind_node, give_place, group_place, group_node}
 use Rattle.tda_groups.specs.Chains.{has_cell, smallest_of, next_of}
 use Rattle.tda_fitnet.specs.Terms.{terms_of}
 use Rattle.tda_fitnet.specs.Arcs.{states, state_at, cell_at, root_layout, root_network}
@@ -189,7 +187,6 @@ module _ (i : Inputs) (tree : IsTree i.spine (nation_of i.spine)) (has : HasKind
             subst (λ n. slice_index flow n ≤ persons_limit) at (give_few (k - (S + S * K)) (omega arith))
       ]
     ]
-
       where
         at_most : (a b : ℕ) {limit : ℕ} → a ≡ b → b ≤ limit → a ≤ limit
         at_most a b e h = omega arith

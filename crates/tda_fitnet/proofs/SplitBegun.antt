@@ -1,19 +1,18 @@
 -- A unit's table as its children are given it, and the circulation that stands for it.
-use Rattle.std.proofs.Common.{◌≡◌, ℕ, zero, suc, ◌+◌, ◌-◌, ◌*◌, ◌<◌, ◌≤◌, cond, eqb, List, length, slice_index, refl, sym, ap, ◌∙◌, subst, inl, inr, arith}
+use Rattle.std.proofs.Common.{◌≡◌, ℕ, zero, ◌+◌, ◌-◌, ◌*◌, ◌<◌, ◌≤◌, List, length, slice_index, refl, sym, ap, ◌∙◌, subst, inl, inr, arith}
 use Rattle.std.specs.List.{sum_by, range_with_len}
 use Rattle.std.proofs.lemmas.Bool.{cases_lt}
 use Rattle.std.specs.Prelude.{replicate}
 use Rattle.std.proofs.lemmas.List.{length-replicate, get_or-replicate}
 use Rattle.tda_fitnet.specs.declared.layout.Layout.{Layout}
 use Rattle.tda_model.specs.Schema.{Schema}
-use Rattle.tda_model.specs.Cells.{cell_count, kind_of, possible_cells}
+use Rattle.tda_model.specs.Cells.{kind_of, possible_cells}
 use Rattle.tda_model.specs.Groups.{kind_count}
 use Rattle.tda_model.specs.Spine.{Spine, level_of, nation_of, children_of, IsUnit, IsTree}
-use Rattle.tda_model.specs.Tables.{Table, Published, kind_sum, persons_in}
+use Rattle.tda_model.specs.Tables.{Published, kind_sum, persons_in}
 use Rattle.tda_model.specs.Bounds.{persons_limit, MostHolds, HasKinds}
 use Rattle.tda_model.specs.Release.{Inputs}
 use Rattle.tda_model.proofs.Sums.{sum_by_index}
-use Rattle.tda_model.proofs.Attain.{kind_lt}
 use Rattle.tda_schema.specs.Stated.{level_at}
 use Rattle.tda_flow.specs.Network.{IsSound}
 use Rattle.tda_flow.specs.Flow.{IsCirculation}
@@ -28,10 +27,9 @@ use Rattle.tda_fitnet.proofs.Places.{split_place}
 use Rattle.tda_fitnet.proofs.Passing.{term_le}
 use Rattle.tda_fitnet.proofs.GivenOut.{part_same}
 use Rattle.tda_fitnet.proofs.UnitsGiven.{nobody_left}
-use Rattle.tda_fitnet.proofs.UnitFacts.{cells_within, counts_few}
+use Rattle.tda_fitnet.proofs.UnitFacts.{counts_few}
 use Rattle.tda_fitnet.proofs.GroupBounds.{Vanishes, possible_persons}
-use Rattle.tda_fitnet.proofs.SplitFit.{cell_in}
-use Rattle.tda_fitnet.proofs.SplitGiven.{kind_cells_part, split_grouped, IsSplitGiven, given_circulates}
+use Rattle.tda_fitnet.proofs.SplitGiven.{kind_cells_part, split_grouped, given_circulates}
 
 pub zeros_length : (n : ℕ) → length (replicate n zero) ≡ n
 zeros_length n = length-replicate n zero

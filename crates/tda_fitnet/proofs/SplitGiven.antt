@@ -1,6 +1,6 @@
 -- Where a unit's children are given their quotas of its table, and groups pass on what comes to them, the flow is a circulation.
-use Rattle.std.proofs.Common.{◌≡◌, ℕ, ◌+◌, ◌<◌, ◌≤◌, ◌&&◌, true, cond, eqb, nat_lt, List, length, get_or, slice_index, refl, sym, ap, ◌∙◌, subst, inl, inr, arith}
-use Rattle.std.specs.List.{sum_by, range_with_len}
+use Rattle.std.proofs.Common.{◌≡◌, ℕ, ◌+◌, ◌<◌, ◌≤◌, cond, eqb, List, length, get_or, slice_index, sym, ap, ◌∙◌, subst, inl, inr, arith}
+use Rattle.std.specs.List.{sum_by}
 use Rattle.std.proofs.lemmas.Bool.{cases_Bool}
 use Rattle.std.proofs.lemmas.List.{ext_get_or}
 use Rattle.std.proofs.lemmas.List.Elements.{All-from_get_or}
@@ -34,7 +34,7 @@ use Rattle.tda_fitnet.proofs.Inner.{tick}
 use Rattle.tda_fitnet.proofs.GroupSums.{balanced_is, members_sum}
 use Rattle.tda_fitnet.proofs.GroupBounds.{Vanishes, kind_cells_sum}
 use Rattle.tda_fitnet.proofs.Grouped.{comes_to_group, grouped}
-use Rattle.tda_fitnet.proofs.SplitFit.{rank_in, rank_at, cell_can, cell_in, cell_rank, is_cell, from_low, from_high, small_in, down, no_states, children_are, split_of_family}
+use Rattle.tda_fitnet.proofs.SplitFit.{rank_in, rank_at, cell_can, cell_rank, is_cell, from_low, from_high, small_in, down, no_states, children_are, split_of_family}
 
 -- the persons of a kind are those of its possible cells
 pub kind_cells_part : (s : Schema) (y : Table) (k : ℕ) → Vanishes s y

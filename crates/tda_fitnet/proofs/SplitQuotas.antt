@@ -8,10 +8,8 @@ use Rattle.tda_model.specs.Groups.{kind_count}
 use Rattle.tda_model.specs.Spine.{Spine, level_of, nation_of, is_child, children_of, blocks_of, IsUnit, HasParent, IsTree}
 use Rattle.tda_model.specs.Tables.{Table, Published, kind_sum, persons_in}
 use Rattle.tda_model.specs.Bounds.{persons_limit, low, high, InBounds, HasKinds}
-use Rattle.tda_model.specs.Release.{Inputs, CanBe}
 use Rattle.tda_model.proofs.Sums.{Each, sum_zero, sum_by_index, sum_filter_le, each_filter, filter_each, each_range, range_each}
 use Rattle.tda_model.proofs.Tree.{child_tells, blocks_split}
-use Rattle.tda_model.proofs.Attain.{attains_in_bounds}
 use Rattle.std.proofs.lemmas.List.Elements.{All-from_recursion}
 use Rattle.tda_fitnet.specs.Giving.{child_must, child_may, leeway, greedy_quota, AreQuotas}
 use Rattle.tda_fitnet.proofs.Ranges.{below, below_same}

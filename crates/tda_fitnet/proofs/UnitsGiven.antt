@@ -1,11 +1,11 @@
 -- What all units have after each was given its quotas.
-use Rattle.std.proofs.Common.{◌≡◌, ◌⊎◌, ℕ, zero, suc, ◌+◌, ◌-◌, ◌*◌, ◌<◌, ◌≤◌, min, Bool, true, false, cond, eqb, List, length, get_or, refl, sym, ap, ◌∙◌, subst, inl, inr, arith, eq-eqb, suc-mul, mul-le-mul_right}
+use Rattle.std.proofs.Common.{◌≡◌, ℕ, suc, ◌+◌, ◌*◌, ◌<◌, ◌≤◌, min, Bool, true, false, cond, eqb, List, length, get_or, refl, sym, ap, ◌∙◌, subst, inl, inr, arith, eq-eqb, suc-mul}
 use Rattle.std.proofs.lemmas.Bool.{cases_lt}
 use Rattle.std.specs.List.{sum_by, range_with_len}
-use Rattle.tda_model.proofs.Sums.{sum_same, sum_add, each_range, each_any}
+use Rattle.tda_model.proofs.Sums.{sum_same, sum_add, each_range}
 use Rattle.tda_model.proofs.Shares.{sum_range_more}
 use Rattle.tda_fitnet.specs.Giving.{kind_part, IsGiven, AreGiven}
-use Rattle.tda_fitnet.proofs.Ranges.{below, below_same, place_below}
+use Rattle.tda_fitnet.proofs.Ranges.{below_same, place_below}
 use Rattle.tda_fitnet.proofs.Passing.{term_le}
 use Rattle.tda_fitnet.proofs.GivenOut.{part_same}
 

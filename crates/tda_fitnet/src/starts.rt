@@ -62,7 +62,14 @@ fn give_table(
 {
     put_counts(cells, table, flow);
     if spine.level(parent) == 0 {
-        give_shares(schema, cells, spine.children(parent).len(), first, shares, flow);
+        give_shares(
+            schema,
+            cells,
+            spine.children(parent).len(),
+            first,
+            shares,
+            flow,
+        );
     } else {
         give_within(schema, spine, inv, parent, cells, first, flow);
     }
@@ -117,7 +124,17 @@ pub fn split_start(
 {
     flow.fill(0);
     let first = fit.layout().sources as usize;
-    give_table(schema, spine, inv, fit.cells(), parent, table, shares, first, flow);
+    give_table(
+        schema,
+        spine,
+        inv,
+        fit.cells(),
+        parent,
+        table,
+        shares,
+        first,
+        flow,
+    );
     // Giving took from the flows of the cells, whose arcs are fixed.
     put_counts(fit.cells(), table, flow);
     sum_fit_groups(fit, flow);

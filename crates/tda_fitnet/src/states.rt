@@ -79,7 +79,13 @@ pub(crate) fn put_states(
 
 /// Gives the persons of each kind to the first of the kind's cells. What cells are given stands from number `first` on, and the sums
 /// become 0.
-pub(crate) fn give_first(schema: &Schema, cells: &[u32], first: usize, sums: &mut [u64], flow: &mut [u64])
+pub(crate) fn give_first(
+    schema: &Schema,
+    cells: &[u32],
+    first: usize,
+    sums: &mut [u64],
+    flow: &mut [u64],
+)
     requires cells { All (λ j. j < cell_count schema.now) cells.now }
     requires kinds { kind_count schema.now ≤ length sums.old }
     requires each { (k : ℕ) → k < kind_count schema.now → (r : ℕ) × (r < length cells.now) × (kind_of schema.now (slice_index cells.now r) ≡ k) }

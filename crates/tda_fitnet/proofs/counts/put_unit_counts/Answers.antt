@@ -1,4 +1,4 @@
-use Rattle.std.proofs.Common.{◌≡◌, ◌⊎◌, ℕ, suc, ◌+◌, ◌-◌, ◌*◌, ◌<◌, ◌≤◌, List, length, slice_index, subst, sym, ap, ◌∙◌, inl, inr, arith}
+use Rattle.std.proofs.Common.{◌≡◌, ℕ, suc, ◌+◌, ◌-◌, ◌*◌, ◌<◌, length, slice_index, subst, sym, ap, ◌∙◌, inl, inr, arith}
 use Rattle.tda_fitnet.specs.Layout.{give_place}
 use Rattle.tda_fitnet.specs.GroupFlows.{first_give}
 use Rattle.tda_fitnet.proofs.Ranges.{place_below}

@@ -1,4 +1,4 @@
-use Rattle.std.proofs.Common.{◌≡◌, ◌⊎◌, ℕ, suc, ◌+◌, ◌*◌, ◌<◌, ◌≤◌, length, slice_index, subst, sym, ap, ◌∙◌, inl, inr, arith, suc-mul}
+use Rattle.std.proofs.Common.{◌≡◌, ℕ, suc, ◌+◌, ◌*◌, length, slice_index, sym, ap, ◌∙◌, inl, inr, arith, suc-mul}
 use Rattle.std.proofs.lemmas.Bool.{cases_eq}
 use Rattle.std.proofs.lemmas.List.{get_or-replicate}
 use Rattle.tda_fitnet.specs.FitNetwork.{flow_count}
@@ -29,8 +29,7 @@ loop-unit-preserved c =
     let r = c.put_unit_counts.ensures in
     let next = suc-mul c.loop-unit.unit all in
     let more : c.loop-unit.unit + 1 ≡ suc c.loop-unit.unit = omega arith in
-    let end = ap (λ n. n * all) more in
-    (
+    let end = ap (λ n. n * all) more in (
       r.count ∙ h.0,
       λ u j l m. elim (cases_eq u c.loop-unit.unit) [
         | inl e ↦ ap (λ v. slice_index c.put_unit_counts.new.counts (v * all + j)) e ∙ r.counts j m ∙ ap (λ v. flow_count c.args.fit.now c.args.flow.now v j) (sym e)

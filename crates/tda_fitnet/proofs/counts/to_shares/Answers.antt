@@ -1,4 +1,4 @@
-use Rattle.std.proofs.Common.{◌≡◌, ℕ, ◌+◌, ◌*◌, ◌<◌, ◌≤◌, length, slice_index, sym, ap, ◌∙◌, arith}
+use Rattle.std.proofs.Common.{◌+◌, ◌*◌, slice_index, ap, ◌∙◌, arith}
 use Rattle.tda_fitnet.specs.Layout.{share_place}
 use Rattle.tda_fitnet.proofs.Ranges.{place_below}
 use Rattle.tda_fitnet.proofs.Counted.{rows_are}

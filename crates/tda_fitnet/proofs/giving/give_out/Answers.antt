@@ -1,5 +1,4 @@
-use Rattle.std.proofs.Common.{◌≡◌, ◌+◌, ◌<◌, ℕ, suc, length, slice_index, subst, sym, ap, ◌∙◌, arith}
-use Rattle.std.proofs.lemmas.List.{get_or_default}
+use Rattle.std.proofs.Common.{◌≡◌, ◌+◌, ℕ, length, slice_index, arith}
 use Rattle.tda_model.specs.Cells.{kind_of}
 use Rattle.tda_fitnet.proofs.GivenOut.{given_step}
 use Rattle.tda_fitnet.proofs.giving.give_out.Goals as goal

@@ -1,10 +1,9 @@
-use Rattle.std.proofs.Common.{rules, ◌≡◌, ℕ, ◌+◌, ◌*◌, ◌<◌, ◌≤◌, All, length, slice_index, sum_by, ◌-◌, suc, subst, sym, ap, ◌∙◌, arith, mul-le-mul_right, suc-mul}
-use Rattle.std.specs.List.{range_with_len}
-use Rattle.tda_model.specs.Cells.{cell_count, kind_of}
+use Rattle.std.proofs.Common.{◌≡◌, ℕ, ◌+◌, ◌*◌, length, slice_index, suc, subst, ap, ◌∙◌, arith}
+use Rattle.tda_model.specs.Cells.{kind_of}
 use Rattle.tda_model.specs.Groups.{kind_count}
-use Rattle.tda_fitnet.specs.Giving.{kind_part, IsGiven, AreGiven}
+use Rattle.tda_fitnet.specs.Giving.{AreGiven}
 use Rattle.tda_fitnet.proofs.GivenOut.{below_le}
-use Rattle.tda_fitnet.proofs.UnitsGiven.{units_start, units_more}
+use Rattle.tda_fitnet.proofs.UnitsGiven.{units_more}
 use Rattle.tda_fitnet.proofs.giving.give_shares.Goals as goal
 
 pub loop-unit-preserved : goal.loop-unit-preserved

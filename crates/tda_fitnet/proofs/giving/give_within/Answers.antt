@@ -1,4 +1,4 @@
-use Rattle.std.proofs.Common.{◌≡◌, ℕ, suc, ◌+◌, ◌-◌, ◌*◌, ◌<◌, ◌≤◌, length, slice_index, sum_by, subst, refl, sym, ap, ◌∙◌, arith}
+use Rattle.std.proofs.Common.{◌≡◌, ℕ, suc, ◌+◌, ◌-◌, ◌<◌, length, slice_index, subst, ap, ◌∙◌, arith}
 use Rattle.tda_model.specs.Spine.{children_of}
 use Rattle.tda_model.specs.Tables.{Published}
 use Rattle.tda_model.specs.Bounds.{low, high}
@@ -6,7 +6,7 @@ use Rattle.tda_model.specs.Cells.{kind_of}
 use Rattle.tda_model.specs.Groups.{kind_count}
 use Rattle.tda_invar.specs.Known.{known_of}
 use Rattle.tda_invar.proofs.UnitLists.{children_within}
-use Rattle.tda_fitnet.specs.Giving.{AreGiven, child_must, child_may, spare_in, spare_left, split_quota}
+use Rattle.tda_fitnet.specs.Giving.{AreGiven, child_must, child_may, spare_in, split_quota}
 use Rattle.tda_fitnet.proofs.GivenOut.{below_le}
 use Rattle.tda_fitnet.proofs.UnitsGiven.{units_start, units_more}
 use Rattle.tda_fitnet.proofs.GreedyQuotas.{quota_is, left_is}
@@ -18,23 +18,22 @@ take_needs-requires-clause-enough c = (
   c.args.spine.now,
   c.requires.joined,
   λ k l.
-  let in_range : k < kind_count c.args.schema.now = omega (arith, l, c.kinds-kinds.ensures.count) in
-  let sum = c.sum_kinds.ensures.sums k (omega (arith, c.kinds-kinds.ensures.count, c.kinds-kinds.ensures.limit)) in
-  let enough = c.requires.needs k in_range in omega (arith, sum, enough),
+      let in_range : k < kind_count c.args.schema.now = omega (arith, l, c.kinds-kinds.ensures.count) in
+      let sum = c.sum_kinds.ensures.sums k (omega (arith, c.kinds-kinds.ensures.count, c.kinds-kinds.ensures.limit)) in
+      let enough = c.requires.needs k in_range in omega (arith, sum, enough),
 )
 
 pub loop-u-init : goal.loop-u-init
 loop-u-init c =
     let kind : ℕ → ℕ = λ r. kind_of c.args.schema.now (slice_index c.args.cells.now r) in
-    let known = known_of c.args.spine.now c.args.inv.now in
-    (
+    let known = known_of c.args.spine.now c.args.inv.now in (
       omega (arith, c.take_needs.ensures.count, c.sum_kinds.ensures.count),
       λ k l.
-      let sum = c.sum_kinds.ensures.sums k (omega (arith, c.kinds-kinds.ensures.count, c.kinds-kinds.ensures.limit)) in
-      let left = c.take_needs.ensures.sums c.args.schema.now c.args.spine.now c.requires.joined k (omega (arith, c.kinds-kinds.ensures.count)) in
-      left ∙ ap (λ n. n - low c.args.spine.now known c.args.parent k) sum ∙ omega arith,
+          let sum = c.sum_kinds.ensures.sums k (omega (arith, c.kinds-kinds.ensures.count, c.kinds-kinds.ensures.limit)) in
+          let left = c.take_needs.ensures.sums c.args.schema.now c.args.spine.now c.requires.joined k (omega (arith, c.kinds-kinds.ensures.count)) in
+          left ∙ ap (λ n. n - low c.args.spine.now known c.args.parent k) sum ∙ omega arith,
       units_start kind (length c.args.cells.now) (kind_count c.args.schema.now) c.args.first c.requires.apart
-      (split_quota c.args.spine.now known c.args.parent kind c.args.flow.now (length c.args.cells.now)) c.args.flow.now,
+          (split_quota c.args.spine.now known c.args.parent kind c.args.flow.now (length c.args.cells.now)) c.args.flow.now,
     )
 
 pub set_quotas-requires-clause-child : goal.set_quotas-requires-clause-child
@@ -64,16 +63,15 @@ loop-u-preserved c =
     let lows : (k : ℕ) → low sp known (slice_index c.children-child-items.result.now u) k ≡ must u k = λ k. ap (λ v. low sp known v k) same in
     let highs : (k : ℕ) → high sp known (slice_index c.children-child-items.result.now u) k ≡ may u k = λ k. ap (λ v. high sp known v k) same in
     let next : suc u ≡ u + 1 = omega arith in
-    let in_range : (k : ℕ) → k < kinds → k < c.kinds-kinds.result = λ k l. omega (arith, l, c.kinds-kinds.ensures.count) in
-    (
+    let in_range : (k : ℕ) → k < kinds → k < c.kinds-kinds.result = λ k l. omega (arith, l, c.kinds-kinds.ensures.count) in (
       c.set_quotas.ensures.spare_count ∙ c.loop-u.invariant.0,
       λ k l. left_is must may spare k u _ _ _ _ (c.loop-u.invariant.1 k l) (lows k) (highs k) (c.set_quotas.ensures.spare c.args.schema.now sp c.requires.joined k (in_range k l)),
       subst (λ n. AreGiven kind cells kinds c.args.first quota c.args.flow.now n c.give_out.new.flow) next
-      (units_more kind cells kinds c.args.first c.requires.apart quota c.args.flow.now u c.loop-u.flow c.give_out.new.flow c.set_quotas.new.quotas c.give_out.new.quotas
-      c.loop-u.invariant.2 c.give_out.ensures
-      (let count = c.set_quotas.ensures.count in omega (arith, count, c.kinds-kinds.ensures.count, c.kinds-kinds.ensures.limit))
-      (λ k l. quota_is must may spare k u _ _ _ _ (c.loop-u.invariant.1 k l) (lows k) (highs k) (c.set_quotas.ensures.quotas c.args.schema.now sp c.requires.joined k (in_range k l)))
-      (λ k l. let all = c.requires.enough k l in let part = below_le (suc u) (length (children_of c.args.spine.now c.args.parent)) (λ v. quota v k) (omega arith) in omega (arith, all, part))),
+          (units_more kind cells kinds c.args.first c.requires.apart quota c.args.flow.now u c.loop-u.flow c.give_out.new.flow c.set_quotas.new.quotas c.give_out.new.quotas
+          c.loop-u.invariant.2 c.give_out.ensures
+          (let count = c.set_quotas.ensures.count in omega (arith, count, c.kinds-kinds.ensures.count, c.kinds-kinds.ensures.limit))
+          (λ k l. quota_is must may spare k u _ _ _ _ (c.loop-u.invariant.1 k l) (lows k) (highs k) (c.set_quotas.ensures.quotas c.args.schema.now sp c.requires.joined k (in_range k l)))
+          (λ k l. let all = c.requires.enough k l in let part = below_le (suc u) (length (children_of c.args.spine.now c.args.parent)) (λ v. quota v k) (omega arith) in omega (arith, all, part))),
     )
 
 pub returns : goal.returns

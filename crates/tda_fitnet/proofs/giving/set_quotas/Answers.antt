@@ -1,4 +1,4 @@
-use Rattle.std.proofs.Common.{◌≡◌, ℕ, ◌+◌, ◌-◌, ◌<◌, ◌≤◌, min, length, slice_index, length-set, sym, ap, ◌∙◌, arith}
+use Rattle.std.proofs.Common.{◌≡◌, ℕ, ◌+◌, ◌-◌, ◌<◌, min, slice_index, length-set, ◌∙◌, arith}
 use Rattle.tda_model.specs.Bounds.{low, high}
 use Rattle.tda_invar.specs.Known.{known_of}
 use Rattle.tda_fitnet.proofs.Writing.{write_more, write_later}
@@ -10,20 +10,19 @@ loop-kind-preserved c =
     let spare = c.args.spare.now in
     let at = c.loop-kind.kind in
     let low_kind : at < c.args.kinds = c.loop-kind-test.true in
-    let own : slice_index c.loop-kind.spare at ≡ slice_index spare at = c.loop-kind.invariant.4 at (omega arith) in
-    (
+    let own : slice_index c.loop-kind.spare at ≡ slice_index spare at = c.loop-kind.invariant.4 at (omega arith) in (
       length-set _ _ _ ∙ c.loop-kind.invariant.0,
       length-set _ _ _ ∙ c.loop-kind.invariant.1,
       λ s sp j.
-      let known = known_of sp inv in
-      write_more c.loop-kind.quotas at (c.low-low.result + c.min-more.result) (λ k. low sp known c.args.child k + min (slice_index spare k) (high sp known c.args.child k - low sp known c.args.child k))
-      (omega (arith, c.loop-kind.invariant.1, c.requires.quotas)) (c.loop-kind.invariant.2 s sp j)
-      (value _ _ _ _ _ _ _ (c.low-low.ensures.low s sp j) c.min-more.ensures own (c.high.ensures.high s sp j)),
+          let known = known_of sp inv in
+          write_more c.loop-kind.quotas at (c.low-low.result + c.min-more.result) (λ k. low sp known c.args.child k + min (slice_index spare k) (high sp known c.args.child k - low sp known c.args.child k))
+          (omega (arith, c.loop-kind.invariant.1, c.requires.quotas)) (c.loop-kind.invariant.2 s sp j)
+          (value _ _ _ _ _ _ _ (c.low-low.ensures.low s sp j) c.min-more.ensures own (c.high.ensures.high s sp j)),
       λ s sp j.
-      let known = known_of sp inv in
-      write_more c.loop-kind.spare at (slice_index c.loop-kind.spare at - c.min-more.result) (λ k. slice_index spare k - min (slice_index spare k) (high sp known c.args.child k - low sp known c.args.child k))
-      (omega (arith, c.loop-kind.invariant.0, c.requires.spare)) (c.loop-kind.invariant.3 s sp j)
-      (rest _ _ _ _ _ _ _ (c.low-low.ensures.low s sp j) c.min-more.ensures own (c.high.ensures.high s sp j)),
+          let known = known_of sp inv in
+          write_more c.loop-kind.spare at (slice_index c.loop-kind.spare at - c.min-more.result) (λ k. slice_index spare k - min (slice_index spare k) (high sp known c.args.child k - low sp known c.args.child k))
+          (omega (arith, c.loop-kind.invariant.0, c.requires.spare)) (c.loop-kind.invariant.3 s sp j)
+          (rest _ _ _ _ _ _ _ (c.low-low.ensures.low s sp j) c.min-more.ensures own (c.high.ensures.high s sp j)),
       write_later c.loop-kind.spare at (slice_index c.loop-kind.spare at - c.min-more.result) (slice_index spare) c.loop-kind.invariant.4,
     )
   where

@@ -1,5 +1,5 @@
-use Rattle.std.proofs.Common.{◌≡◌, ℕ, ◌+◌, ◌<◌, ◌≤◌, length, slice_index, length-set, sym, ap, ◌∙◌, arith, rules}
-use Rattle.std.proofs.lemmas.List.{get_or-replicate, length-replicate}
+use Rattle.std.proofs.Common.{ℕ, length, slice_index, length-set, sym, ap, ◌∙◌, arith}
+use Rattle.std.proofs.lemmas.List.{get_or-replicate}
 use Rattle.tda_model.specs.Cells.{kind_of}
 use Rattle.tda_fitnet.proofs.GivenOut.{kind_added, part_few}
 use Rattle.tda_fitnet.proofs.giving.sum_kinds.Goals as goal
@@ -19,8 +19,7 @@ overflow_add-sums c =
 
 pub loop-r-preserved : goal.loop-r-preserved
 loop-r-preserved c =
-    let kind : ℕ → ℕ = λ r. kind_of c.args.schema.now (slice_index c.args.cells.now r) in
-    (
+    let kind : ℕ → ℕ = λ r. kind_of c.args.schema.now (slice_index c.args.cells.now r) in (
       length-set _ _ _ ∙ c.loop-r.invariant.0,
       λ k l. kind_added kind (slice_index c.args.flow.now) c.loop-r.r c.loop-r.sums c.kind_of.result (sym c.kind_of.ensures.kind)
           (let h = c.kind_of.ensures.in_range in omega (arith, c.requires.kinds, c.loop-r.invariant.0)) k (c.loop-r.invariant.1 k l),

@@ -1,4 +1,4 @@
-use Rattle.std.proofs.Common.{◌≡◌, ℕ, ◌-◌, ◌<◌, ◌≤◌, length, slice_index, length-set, ap, ◌∙◌, arith}
+use Rattle.std.proofs.Common.{◌-◌, slice_index, length-set, ap, ◌∙◌, arith}
 use Rattle.tda_model.specs.Bounds.{low}
 use Rattle.tda_invar.specs.Known.{known_of}
 use Rattle.tda_fitnet.proofs.Writing.{write_more, write_later}
@@ -14,8 +14,7 @@ overflow_sub-sums c =
 pub loop-kind-preserved : goal.loop-kind-preserved
 loop-kind-preserved c =
     let at = c.loop-kind.kind in
-    let own = c.loop-kind.invariant.2 at (omega arith) in
-    (
+    let own = c.loop-kind.invariant.2 at (omega arith) in (
       length-set _ _ _ ∙ c.loop-kind.invariant.0,
       λ s sp j. write_more c.loop-kind.sums at (slice_index c.loop-kind.sums at - c.low.result) (λ k. slice_index c.args.sums.now k - low sp (known_of sp c.args.inv.now) c.args.unit k)
           (omega (arith, c.loop-kind.invariant.0, c.requires.sums, c.loop-kind-test.true)) (c.loop-kind.invariant.1 s sp j)

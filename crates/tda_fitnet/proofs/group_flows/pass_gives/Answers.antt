@@ -1,4 +1,4 @@
-use Rattle.std.proofs.Common.{◌≡◌, ◌+◌, suc, subst, sym, arith}
+use Rattle.std.proofs.Common.{◌≡◌, ◌+◌, suc, subst, arith}
 use Rattle.tda_fitnet.specs.GroupFlows.{passed, GivesPassed}
 use Rattle.tda_fitnet.proofs.Passing.{gives_start, gives_more, give_room}
 use Rattle.tda_fitnet.proofs.group_flows.pass_gives.Goals as goal

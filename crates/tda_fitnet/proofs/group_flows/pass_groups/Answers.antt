@@ -1,4 +1,4 @@
-use Rattle.std.proofs.Common.{◌≡◌, ◌-◌, suc, subst, sym, arith}
+use Rattle.std.proofs.Common.{◌≡◌, ◌-◌, suc, subst, arith}
 use Rattle.tda_fitnet.specs.GroupFlows.{GroupsPassed}
 use Rattle.tda_fitnet.proofs.Passing.{groups_start, groups_more, group_room}
 use Rattle.tda_fitnet.proofs.group_flows.pass_groups.Goals as goal
@@ -16,9 +16,12 @@ pass_on-requires-clause-room c =
 pub loop-arc-preserved : goal.loop-arc-preserved
 loop-arc-preserved c =
     let last : c.loop-arc.arc ≡ suc (c.loop-arc.arc - 1) = omega (arith, c.loop-arc-test.true) in
-    rw c.pass_on.ensures (omega (arith, c.loop-arc-test.true), groups_more c.args.net.now c.args.first c.args.node c.args.give c.requires.grouped c.args.flow.now c.loop-arc.flow (c.loop-arc.arc - 1)
-    (omega (arith, c.loop-arc-test.true)) (omega (arith, c.loop-arc-test.true, c.loop-arc.auto.arc, c.arcs-arc.ensures.value))
-    (subst (λ n. GroupsPassed c.args.net.now c.args.first c.args.node c.args.flow.now n c.loop-arc.flow) last c.loop-arc.invariant.1))
+    rw c.pass_on.ensures (
+      omega (arith, c.loop-arc-test.true),
+      groups_more c.args.net.now c.args.first c.args.node c.args.give c.requires.grouped c.args.flow.now c.loop-arc.flow (c.loop-arc.arc - 1)
+          (omega (arith, c.loop-arc-test.true)) (omega (arith, c.loop-arc-test.true, c.loop-arc.auto.arc, c.arcs-arc.ensures.value))
+          (subst (λ n. GroupsPassed c.args.net.now c.args.first c.args.node c.args.flow.now n c.loop-arc.flow) last c.loop-arc.invariant.1),
+    )
 
 pub returns : goal.returns
 returns c =

@@ -1,15 +1,12 @@
-use Rattle.std.proofs.Common.{◌≡◌, ℕ, ◌+◌, ◌-◌, ◌*◌, ◌<◌, ◌≤◌, length, slice_index, subst, sym, ap, ◌∙◌, arith}
+use Rattle.std.proofs.Common.{◌≡◌, ℕ, ◌+◌, ◌-◌, ◌*◌, ◌≤◌, length, slice_index, sym, ap, ◌∙◌, arith}
 use Rattle.std.specs.List.{sum_by, range_with_len}
-use Rattle.tda_model.specs.Cells.{cell_count, kind_of}
+use Rattle.tda_model.specs.Cells.{kind_of}
 use Rattle.tda_model.specs.Groups.{kind_count}
-use Rattle.tda_model.specs.Spine.{level_of, nation_of, children_of}
-use Rattle.tda_model.specs.Tables.{kind_sum}
-use Rattle.tda_model.specs.Bounds.{InBounds, low}
+use Rattle.tda_model.specs.Spine.{level_of, nation_of}
+use Rattle.tda_model.specs.Bounds.{low}
 use Rattle.tda_model.proofs.Attain.{attains_in_bounds, kind_lt}
 use Rattle.tda_invar.specs.Known.{known_of}
-use Rattle.tda_fitnet.specs.Fits.{AreListedShares}
-use Rattle.tda_fitnet.specs.Giving.{kind_part, spare_in, split_quota}
-use Rattle.tda_fitnet.proofs.GroupBounds.{Vanishes}
+use Rattle.tda_fitnet.specs.Giving.{spare_in, split_quota}
 use Rattle.tda_fitnet.proofs.NationShares.{attains_vanishes}
 use Rattle.tda_fitnet.proofs.NationQuotas.{quotas_at, add_at, size_at}
 use Rattle.tda_fitnet.proofs.SplitQuotas.{quotas_are, quotas_add}

@@ -1,12 +1,8 @@
-use Rattle.std.proofs.Common.{◌≡◌, ◌⊎◌, ℕ, zero, ◌+◌, ◌*◌, ◌<◌, ◌≤◌, List, length, slice_index, subst, refl, sym, ap, ◌∙◌, inl, inr, arith}
+use Rattle.std.proofs.Common.{length, slice_index, ap, ◌∙◌, inr, arith}
 use Rattle.std.proofs.lemmas.List.{get_or-replicate}
-use Rattle.tda_model.specs.Cells.{cell_count, possible_cells}
-use Rattle.tda_model.specs.Groups.{kind_count}
-use Rattle.tda_model.specs.Spine.{units_at}
 use Rattle.tda_invar.proofs.Existence.{always}
 use Rattle.tda_fitnet.specs.Inputs.{inputs_of}
-use Rattle.tda_fitnet.specs.FitNetwork.{FitNetwork}
-use Rattle.tda_fitnet.specs.GroupFlows.{first_give, first_group}
+use Rattle.tda_fitnet.specs.GroupFlows.{first_give}
 use Rattle.tda_fitnet.proofs.UnitFacts.{cells_within}
 use Rattle.tda_fitnet.proofs.RootBegun.{root_fit_grouped, root_limit, root_circulates, states_room, each_kind, root_given, root_kept, root_empty}
 use Rattle.tda_fitnet.proofs.starts.root_start.Goals as goal
@@ -69,4 +65,4 @@ returns c =
     (always c.args.schema.now c.args.spine.now c.args.inv.now c.requires.joined).few c.requires.fit.tree c.requires.fit.is_tree c.requires.joined.suffice
     (omega (arith, c.requires.belong.depth, c.requires.joined.tree.deep)) c.args.fit.now c.requires.fit.is sum.sound c.sum_fit_groups.new.flow
     (root_kept (inputs_of c.args.schema.now c.args.spine.now c.args.inv.now c.requires.fit.measured) c.requires.joined.tree c.requires.joined.kinds c.requires.joined.most
-    (always c.args.schema.now c.args.spine.now c.args.inv.now c.requires.joined).few c.requires.fit.tree c.requires.fit.is_tree c.requires.joined.suffice c.args.fit.now c.requires.fit.is c.give_first.new.flow c.sum_fit_groups.new.flow given sum.count sum.kept) (record { sums = sum.sums; })
+    (always c.args.schema.now c.args.spine.now c.args.inv.now c.requires.joined).few c.requires.fit.tree c.requires.fit.is_tree c.requires.joined.suffice c.args.fit.now c.requires.fit.is c.give_first.new.flow c.sum_fit_groups.new.flow given sum.count sum.kept) (record { sums = sum.sums })

@@ -1,9 +1,6 @@
-use Rattle.std.proofs.Common.{◌≡◌, ℕ, ◌<◌, ◌≤◌, length, slice_index, subst, sym, ap, ◌∙◌, arith}
-use Rattle.std.proofs.lemmas.List.{get_or-replicate}
-use Rattle.tda_model.specs.Release.{Inputs}
+use Rattle.std.proofs.Common.{slice_index}
 use Rattle.tda_invar.specs.Known.{known_of}
 use Rattle.tda_fitnet.specs.Inputs.{inputs_of}
-use Rattle.tda_fitnet.specs.Giving.{IsTableGiven}
 use Rattle.tda_fitnet.proofs.NationShares.{attains_vanishes}
 use Rattle.tda_fitnet.proofs.SplitBegun.{put_back, fit_grouped, ready, put_circulates}
 use Rattle.tda_fitnet.proofs.starts.split_start.Goals as goal
@@ -51,4 +48,4 @@ returns c =
     c.requires.fit.tree c.requires.fit.is_tree c.args.table.now (attains_vanishes c.args.schema.now c.args.spine.now (known_of c.args.spine.now c.args.inv.now) c.args.parent (slice_index c.args.table.now) c.requires.can_be)
     c.requires.few
     c.fill.new.self c.give_table.new.flow c.put_counts.new.flow c.args.fit.now c.requires.fit.is sum.sound back c.sum_fit_groups.new.flow
-    (record { count = sum.count; kept = sum.kept; sums = sum.sums; })
+    (record { count = sum.count; kept = sum.kept; sums = sum.sums })

@@ -1,4 +1,4 @@
-use Rattle.std.proofs.Common.{◌≡◌, ℕ, ◌+◌, ◌<◌, ◌≤◌, length, slice_index, length-set, get_or-set_other, sym, ap, ◌∙◌, inl, inr, arith}
+use Rattle.std.proofs.Common.{◌≡◌, ℕ, ◌+◌, ◌<◌, ◌≤◌, length, slice_index, length-set, get_or-set_other, ap, ◌∙◌, inl, inr, arith}
 use Rattle.tda_model.specs.Cells.{kind_of}
 use Rattle.tda_fitnet.specs.Giving.{kind_part}
 use Rattle.tda_fitnet.proofs.FirstGiven.{first_more, first_none}
@@ -13,8 +13,7 @@ loop-r-preserved c =
     let inv = c.loop-r.invariant in
     let low : n < length c.args.cells.now = c.loop-r-test.true in
     let room : c.args.first + length c.args.cells.now ≤ length c.loop-r.flow = omega (arith, inv.0, c.requires.room) in
-    let in_sums : m < length c.loop-r.sums = (let h = c.kind_of-kind.ensures.in_range in omega (arith, inv.1, c.requires.kinds)) in
-    (
+    let in_sums : m < length c.loop-r.sums = (let h = c.kind_of-kind.ensures.in_range in omega (arith, inv.1, c.requires.kinds)) in (
       length-set _ _ _ ∙ inv.0,
       length-set _ _ _ ∙ inv.1,
       λ k l. first_more kind c.args.first (length c.args.cells.now) n m c.loop-r.flow c.loop-r.sums own low room in_sums k (slice_index c.args.sums.now k) (inv.2 k l),

@@ -1,5 +1,4 @@
-use Rattle.std.proofs.Common.{◌≡◌, ◌⊎◌, ℕ, suc, ◌+◌, ◌-◌, ◌*◌, ◌<◌, ◌≤◌, cond, List, length, get_or, slice_index, set, length-set, get_or-set_same, get_or-set_other, sym, ap, ◌∙◌, subst, inl, inr, arith, ne_eqb, eq-eqb}
-use Rattle.std.specs.List.{sum_by, range_with_len}
+use Rattle.std.proofs.Common.{◌≡◌, ℕ, suc, ◌+◌, ◌-◌, ◌*◌, ◌<◌, ◌≤◌, cond, length, get_or, slice_index, set, length-set, get_or-set_same, get_or-set_other, sym, ap, ◌∙◌, inl, inr, arith, ne_eqb}
 use Rattle.std.proofs.lemmas.Bool.{cases_eq}
 use Rattle.tda_model.specs.Groups.{kind_count}
 use Rattle.tda_model.specs.Schema.{Schema}
@@ -9,7 +8,7 @@ use Rattle.tda_model.specs.Bounds.{low, needed}
 use Rattle.tda_model.proofs.Shares.{sum_range_more}
 use Rattle.tda_invar.specs.Known.{known_of}
 use Rattle.std.proofs.lemmas.Bool.{eqb-true}
-use Rattle.tda_fitnet.specs.Plain.{plain_share, plain_at}
+use Rattle.tda_fitnet.specs.Plain.{plain_share}
 use Rattle.tda_fitnet.proofs.Ranges.{below, place_below}
 use Rattle.tda_fitnet.proofs.GivenOut.{below_le}
 use Rattle.tda_fitnet.proofs.UnitFacts.{listed_state, state_total}
@@ -79,8 +78,7 @@ loop-kind-preserved c =
     let added : ℕ = slice_index sums kind + share in
     let fits : first + kind < length c.loop-kind.flow =
     (let b = place_below (length (units_at c.args.spine.now 1)) (kind_count c.args.schema.now) c.args.n kind c.requires.state in_range in
-    let same = ap (λ m. c.args.n * m) c.kinds-kinds.ensures.count in omega (arith, b, same, ap length c.at_level-states.ensures, h.1, c.requires.room)) in
-    (
+    let same = ap (λ m. c.args.n * m) c.kinds-kinds.ensures.count in omega (arith, b, same, ap length c.at_level-states.ensures, h.1, c.requires.room)) in (
       omega (arith, h.0),
       length-set _ _ _ ∙ h.1,
       length-set _ _ _ ∙ h.2,

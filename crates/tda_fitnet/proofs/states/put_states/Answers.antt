@@ -1,4 +1,4 @@
-use Rattle.std.proofs.Common.{◌≡◌, ◌⊎◌, ℕ, zero, suc, ◌^◌, [], refl, ◌+◌, ◌*◌, ◌<◌, ◌≤◌, length, slice_index, sym, ap, ◌∙◌, inl, inr, arith, suc-mul, mul-le-mul_right}
+use Rattle.std.proofs.Common.{◌≡◌, ℕ, zero, suc, ◌^◌, [], refl, ◌+◌, ◌*◌, ◌<◌, ◌≤◌, length, slice_index, sym, ap, ◌∙◌, inl, inr, arith, suc-mul, mul-le-mul_right}
 use Rattle.std.specs.List.{sum_by, range_with_len}
 use Rattle.std.proofs.lemmas.Bool.{cases_eq}
 use Rattle.tda_model.specs.Groups.{kind_count}
@@ -50,8 +50,7 @@ loop-n-preserved c =
     let states : ℕ = length (units_at c.args.spine.now 1) in
     let low : n < states = omega (arith, c.loop-n-test.true, ap length c.at_level-n-end.ensures) in
     let own : n * kinds + kinds ≤ states * kinds = (let m = suc-mul n kinds in let le : suc n * kinds ≤ states * kinds = mul-le-mul_right kinds low in omega arith) in
-    let next : suc n ≡ n + 1 = omega arith in
-    (
+    let next : suc n ≡ n + 1 = omega arith in (
       r.count ∙ h.0,
       r.sum_count ∙ h.1,
       λ m l. elim (cases_eq m n) [
