@@ -72,7 +72,7 @@ impl Scale {
 }
 
 // The step size 2^shift.
-fn step_size(shift: u32) -> u64
+pub(crate) fn step_size(shift: u32) -> u64
     requires { shift ≤ 30 }
     ensures { result ≡ 2 ^ shift }
 {
