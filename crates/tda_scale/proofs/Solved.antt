@@ -129,3 +129,6 @@ room_less n m n' m' t l k h = record {
   found = let a = h.found in omega arith;
   walk = let a = h.walk in omega arith;
 }
+
+pub wider_at : (a b : ℕ) (z : ℤ) → a ≤ b → IsWithin a z → IsWithin b z
+wider_at a b z l k = record { low = omega (arith, ints, k.low); high = omega (arith, ints, k.high) }

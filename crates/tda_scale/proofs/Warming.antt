@@ -1,9 +1,8 @@
 -- Flows that are least for prices that were handed in.
-use Rattle.std.proofs.Common.{◌≡◌, ◌≢◌, ℕ, suc, ◌+◌, ◌-◌, ◌*◌, ◌/◌, ◌%◌, ◌^◌, ◌<◌, ◌≤◌, ℤ, pos, negsuc, neg_ℤ, ◌+ℤ◌, ◌-ℤ◌, ◌*ℤ◌, ◌≤ℤ◌, ◌<ℤ◌, refl, sym, ap, subst, ◌∙◌, List, length, slice_index, set, inl, inr, arith, length-set}
+use Rattle.std.proofs.Common.{◌≡◌, ◌≢◌, ℕ, suc, ◌+◌, ◌-◌, ◌*◌, ◌/◌, ◌%◌, ◌^◌, ◌<◌, ◌≤◌, ℤ, pos, negsuc, neg_ℤ, ◌+ℤ◌, ◌-ℤ◌, ◌*ℤ◌, ◌≤ℤ◌, ◌<ℤ◌, refl, sym, ap, subst, ◌∙◌, List, length, slice_index, set, inl, inr, arith, length-set, Bool, true, false, cond, ltb}
 use Rattle.std.proofs.lemmas.Int.{ints, by_lt_z}
-use Rattle.std.proofs.lemmas.Bool.{cases_eq, cases_lt}
-use Rattle.std.proofs.Math.Nat.{div-add-mod, mod-lt, mul-le-mul}
-use Rattle.std.specs.Int.{int_div_euclid}
+use Rattle.std.proofs.lemmas.Bool.{cases_eq, cases_lt, ltb-true, ltb-false}
+use Rattle.std.proofs.lemmas.List.{get_or_past}
 use Rattle.tda_loss.specs.Curve.{IsWithin}
 use Rattle.tda_loss.proofs.Ring.{mul-add, mul-sub, pos-mul-le}
 use Rattle.tda_flow.specs.declared.net.Arc.{Arc}
@@ -11,10 +10,12 @@ use Rattle.tda_flow.specs.declared.net.Term.{Term}
 use Rattle.tda_flow.specs.Network.{Network, arc_count, arc_at, terms_at}
 use Rattle.tda_flow.specs.Flow.{arc_cost}
 use Rattle.tda_flow.specs.Certificate.{price_at}
+use Rattle.tda_flow.specs.Walk.{stepped, bumped}
+use Rattle.tda_flow.proofs.Changes.{flow-here}
 use Rattle.tda_scale.specs.declared.slopes.Slope.{Slope}
 use Rattle.tda_scale.specs.declared.spots.Spot.{Spot}
 use Rattle.tda_scale.specs.Slopes.{IsSlope}
-use Rattle.tda_scale.specs.Spots.{spot_at, priced_spot, is_found}
+use Rattle.tda_scale.specs.Spots.{no_spot, spot_at, priced_spot, is_found}
 use Rattle.tda_scale.specs.Quotes.{up_rate, down_rate}
 use Rattle.tda_scale.specs.Searching.{price_of, AreFresh}
 use Rattle.tda_scale.specs.Adjusted.{Keeps, KeepsAt}
@@ -24,35 +25,29 @@ use Rattle.tda_scale.specs.Warm.{ArePriced}
 use Rattle.tda_scale.proofs.Quoted.{cost_up, cost_down}
 use Rattle.tda_scale.proofs.Searched.{spot-here, spot-other}
 
--- the floor of a quotient
-pub floor_below : (z : ℤ) (n : ℕ) → 1 ≤ n → (pos n *ℤ int_div_euclid z (pos n)) ≤ℤ z
-floor_below (pos a) n l = let d = div-add-mod a n in omega (arith, ints, d)
-floor_below (negsuc a) n l = let d = div-add-mod a n in let m = mod-lt a {n} l in omega (arith, ints, d, m)
-
-pub floor_above : (z : ℤ) (n : ℕ) → 1 ≤ n → z <ℤ (pos n *ℤ int_div_euclid z (pos n) +ℤ pos n)
-floor_above (pos a) n l = let d = div-add-mod a n in let m = mod-lt a {n} l in omega (arith, ints, d, m)
-floor_above (negsuc a) n l = let d = div-add-mod a n in omega (arith, ints, d)
-
-pub floor_near : (z q : ℤ) (n : ℕ) → 1 ≤ n → n ≤ 2 ^ 28 → IsWithin (2 ^ 94) z → (pos n *ℤ q) ≤ℤ z → z <ℤ (pos n *ℤ q +ℤ pos n) → IsWithin (2 ^ 95) q
-floor_near z (pos k) n l few h below above =
-    let a : 1 * k ≤ n * k = mul-le-mul l (omega arith) in
-    record { low = omega (arith, ints); high = omega (arith, ints, h.high, a) }
-floor_near z (negsuc k) n l few h below above =
-    let a : 1 * suc k ≤ n * suc k = mul-le-mul l (omega arith) in
-    record { low = omega (arith, ints, h.low, a); high = omega (arith, ints) }
-
--- the least flows lie between the two quotients
-pub floors_meet : (rest q r : ℤ) (n : ℕ) → 1 ≤ n → neg_ℤ rest <ℤ (pos n *ℤ r +ℤ pos n) → rest <ℤ (pos n *ℤ q +ℤ pos n) → neg_ℤ r ≤ℤ (q +ℤ pos 1)
-floors_meet rest q r n l high above =
-    by_lt_z (q +ℤ pos 1) (neg_ℤ r)
+-- the least and the greatest of the least flows
+pub meets : (z least most : ℤ) (n : ℕ) → (pos n *ℤ least) <ℤ (z +ℤ pos n) → z <ℤ (pos n *ℤ most) → least ≤ℤ most
+meets z least most n below above =
+    by_lt_z most least
     (λ less.
-    let m = pos-mul-le n (q +ℤ pos 2) (neg_ℤ r) (omega (arith, ints)) in
-    let a = mul-add (pos n) q (pos 2) in
-    let e : neg_ℤ r ≡ pos 0 -ℤ r = omega (arith, ints) in
-    let b = ap (λ z. pos n *ℤ z) e in
-    let c = mul-sub (pos n) (pos 0) r in
+    let m = pos-mul-le n (most +ℤ pos 1) least (omega (arith, ints)) in
+    let a = mul-add (pos n) most (pos 1) in
     absurd (omega (arith, ints)))
     (λ ok. omega (arith, ints))
+
+neg-times : (n q : ℤ) → n *ℤ neg_ℤ q ≡ neg_ℤ (n *ℤ q)
+neg-times n q =
+    let e : neg_ℤ q ≡ pos 0 -ℤ q = omega (arith, ints) in
+    let a = ap (λ y. n *ℤ y) e in
+    let b = mul-sub n (pos 0) q in
+    let c : n *ℤ pos 0 ≡ pos 0 = omega (arith, ints) in
+    omega (arith, ints)
+
+pub ceiling : (z q r : ℤ) (n : ℕ) → r ≡ neg_ℤ q → neg_ℤ z <ℤ (pos n *ℤ q +ℤ pos n) → (pos n *ℤ r) <ℤ (z +ℤ pos n)
+ceiling z q r n e high = let a = neg-times (pos n) q in let b = ap (λ y. pos n *ℤ y) e in omega (arith, ints)
+
+pub one_past : (z q r : ℤ) (n : ℕ) → r ≡ q +ℤ pos 1 → (pos n *ℤ q) ≤ℤ z → z <ℤ (pos n *ℤ q +ℤ pos n) → (z <ℤ (pos n *ℤ r)) × ((pos n *ℤ r) ≤ℤ (z +ℤ pos n))
+one_past z q r n e low high = let a = mul-add (pos n) q (pos 1) in let b = ap (λ y. pos n *ℤ y) e in (omega (arith, ints), omega (arith, ints))
 
 double : (w y : ℕ) → pos (2 * w) *ℤ pos y ≡ pos (w * y) +ℤ pos (w * y)
 double w y = let e : 2 * w * y ≡ w * y + w * y = omega arith in omega (arith, ints, e)
@@ -75,12 +70,10 @@ least_up s g rest least y e h l =
     let m = pos-mul-le (2 * s.weight) least (pos y) l in
     omega (arith, ints, m, double s.weight y, odd_up s.weight y, h, e)
 
-pub least_down : (s : Slope) (g rest q : ℤ) (y : ℕ) → 1 ≤ y → rest ≡ g +ℤ s.pull -ℤ pos s.weight → (pos (2 * s.weight) *ℤ q) ≤ℤ rest → pos y ≤ℤ (q +ℤ pos 1) → neg_ℤ g ≤ℤ down_rate s 1 y
-least_down s g rest q y one e h l =
-    let m = pos-mul-le (2 * s.weight) (pos y) (q +ℤ pos 1) l in
-    let a = mul-add (pos (2 * s.weight)) q (pos 1) in
-    let b = double s.weight 1 in
-    omega (arith, ints, m, a, double s.weight y, odd_down s.weight y one, h, e)
+pub least_down : (s : Slope) (g rest most : ℤ) (y : ℕ) → 1 ≤ y → rest ≡ g +ℤ s.pull -ℤ pos s.weight → (pos (2 * s.weight) *ℤ most) ≤ℤ (rest +ℤ pos (2 * s.weight)) → pos y ≤ℤ most → neg_ℤ g ≤ℤ down_rate s 1 y
+least_down s g rest most y one e h l =
+    let m = pos-mul-le (2 * s.weight) (pos y) most l in
+    omega (arith, ints, m, double s.weight y, odd_down s.weight y one, h, e)
 
 -- an arc without weight
 pub flat_up : (s : Slope) (g : ℤ) (y : ℕ) → s.weight ≡ 0 → (g +ℤ s.pull -ℤ pos s.weight) ≤ℤ pos 0 → g ≤ℤ up_rate s 1 y
@@ -148,3 +141,31 @@ priced_more prices n x spots more next l ex h e = record {
 
     other : (v : ℕ) → (v ≡ n → ⊥) → spot_at next v ≡ spot_at more v
     other v ne = ap (λ z. spot_at z v) e ∙ spot-other more n v (priced_spot (spot_at more n) x) ne
+
+-- an arc that is brought from the flow x to the flow y
+pub flow_reached : (k x y d : ℕ) (flow more : List ℕ) → k < length flow → x ≡ slice_index flow k → d ≡ (y - x) + (x - y) → more ≡ bumped (record { arc = k; back = ltb y x }) d flow → slice_index more k ≡ y
+flow_reached k x y d flow more l ex ed e =
+    ap (λ z. slice_index z k) e ∙ flow-here flow k (stepped (record { arc = k; back = ltb y x }) d (slice_index flow k)) l ∙ go (ltb y x) refl
+  where
+    go : (b : Bool) → ltb y x ≡ b → cond b (slice_index flow k - d) (slice_index flow k + d) ≡ y
+    go true q = let m = ltb-true y x q in omega arith
+    go false q = let m = ltb-false y x q in omega arith
+
+-- the prices are within bounds
+pub priced_within : (b : ℕ) (prices : List ℤ) (spots more last : List Spot) → ArePriced prices (length prices) spots more → length prices ≡ length spots → ((v : ℕ) → v < length prices → IsWithin b (price_at prices v))
+    → ((v : ℕ) → (spot_at last v).price ≡ (spot_at more v).price) → AreWithin b last
+priced_within b prices spots more last h e small same v =
+    elim (cases_lt v (length prices)) [
+      | inl l ↦ subst (IsWithin b) (sym (same v ∙ h.price v l)) (small v l)
+      | inr past ↦
+          let p : (spot_at last v).price ≡ pos 0 = same v ∙ h.later v past ∙ ap (λ (s : Spot). s.price) (get_or_past spots v no_spot (omega (arith, e))) in
+          record { low = omega (arith, ints, p); high = omega (arith, ints, p) }
+    ]
+
+pub priced_tracked : (net : Network) (flow : List ℕ) (prices : List ℤ) (n : ℕ) (spots more : List Spot) → ArePriced prices n spots more → IsTracked net flow spots → IsTracked net flow more
+priced_tracked net flow prices n spots more h t = record {
+  nodes = h.count ∙ t.nodes;
+  flows = t.flows;
+  within = t.within;
+  excesses = λ v l. h.excess v ∙ t.excesses v l;
+}

@@ -1,6 +1,6 @@
 // A start from prices that were handed in: each arc at its least flow for them, the nearest to the one
 // that it has.
-ghost use Rattle.std.specs.Prelude.{◌≡◌, ◌≢◌, ℕ, ◌+◌, ◌-◌, ◌*◌, ◌<◌, ◌≤◌, ◌^◌, length, slice_index, slice_set, IsTrue, pos, neg_ℤ, ◌+ℤ◌, ◌*ℤ◌, ◌≤ℤ◌, ◌<ℤ◌};
+ghost use Rattle.std.specs.Prelude.{◌≡◌, ◌≢◌, ℕ, ◌+◌, ◌-◌, ◌*◌, ◌<◌, ◌≤◌, ◌^◌, length, slice_index, slice_set, IsTrue, pos, neg_ℤ, ◌+ℤ◌, ◌-ℤ◌, ◌*ℤ◌, ◌≤ℤ◌, ◌<ℤ◌};
 ghost use Rattle.tda_loss.specs.Curve.{IsWithin};
 ghost use Rattle.tda_flow.specs.Network.{arc_count};
 ghost use Rattle.tda_flow.specs.Certificate.{price_at};
@@ -21,7 +21,6 @@ use crate::quotes::Body;
 use crate::scale::step_size;
 use crate::slopes::Slope;
 use crate::spots::Spot;
-use std::cmp::Ordering;
 use tda_flow::{Arc, Turn};
 
 // The greatest price that a solve may begin with, either way.
@@ -39,8 +38,21 @@ fn nearest(x: u64, least: i128, most: i128, low: u64, high: u64) -> u64
     ensures up { result < high → least ≤ℤ pos result }
     ensures down { low < result → pos result ≤ℤ most }
 {
-    let flow = i128::from(x).max(least).min(most);
-    flow.max(i128::from(low)).min(i128::from(high)) as u64
+    let x = i128::from(x);
+    let flow = if x < least {
+        least
+    } else if most < x {
+        most
+    } else {
+        x
+    };
+    if flow < i128::from(low) {
+        low
+    } else if i128::from(high) < flow {
+        high
+    } else {
+        flow as u64
+    }
 }
 
 // The greatest whole number q with n · q at most z.
@@ -53,6 +65,40 @@ fn floor_div(z: i128, n: u64) -> i128
     ensures near { IsWithin (2 ^ 95) result }
 {
     z.div_euclid(i128::from(n))
+}
+
+// The gap and the pull, less the weight.
+fn rest_of(slope: Slope, gap: i128) -> i128
+    requires slope { IsSlight slope }
+    requires gap { IsWithin (2 ^ 93) gap }
+    ensures value { result ≡ gap +ℤ slope.pull -ℤ pos slope.weight }
+    ensures near { IsWithin (2 ^ 94) result }
+{
+    gap + i128::from(slope.pull) - i128::from(slope.weight)
+}
+
+// The least whole number q with n · q at least z.
+fn least_of(z: i128, n: u64) -> i128
+    requires some { 1 ≤ n }
+    requires few { n ≤ 2 ^ 28 }
+    requires near { IsWithin (2 ^ 94) z }
+    ensures low { z ≤ℤ (pos n *ℤ result) }
+    ensures high { (pos n *ℤ result) <ℤ (z +ℤ pos n) }
+    ensures near { IsWithin (2 ^ 96) result }
+{
+    -floor_div(-z, n)
+}
+
+// The greatest whole number q with n · q at most z + n.
+fn most_of(z: i128, n: u64) -> i128
+    requires some { 1 ≤ n }
+    requires few { n ≤ 2 ^ 28 }
+    requires near { IsWithin (2 ^ 94) z }
+    ensures low { z <ℤ (pos n *ℤ result) }
+    ensures high { (pos n *ℤ result) ≤ℤ (z +ℤ pos n) }
+    ensures near { IsWithin (2 ^ 96) result }
+{
+    floor_div(z, n) + 1
 }
 
 // A least flow of an arc for a gap between the prices of its ends, the nearest to the flow `x`. With the
@@ -68,17 +114,19 @@ fn least_flow(slope: Slope, arc: Arc, gap: i128, x: u64) -> u64
     ensures up { result + 1 ≤ arc.high → gap ≤ℤ up_rate slope 1 result }
     ensures down { arc.low + 1 ≤ result → neg_ℤ gap ≤ℤ down_rate slope 1 result }
 {
-    let rest = gap + i128::from(slope.pull) - i128::from(slope.weight);
-    if slope.weight == 0 {
-        return match rest.cmp(&0) {
-            Ordering::Less => arc.low,
-            Ordering::Equal => x,
-            Ordering::Greater => arc.high,
-        };
+    let rest = rest_of(slope, gap);
+    if slope.weight > 0 {
+        let least = least_of(rest, 2 * slope.weight);
+        let most = most_of(rest, 2 * slope.weight);
+        return nearest(x, least, most, arc.low, arc.high);
     }
-    let least = -floor_div(-rest, 2 * slope.weight);
-    let most = floor_div(rest, 2 * slope.weight) + 1;
-    nearest(x, least, most, arc.low, arc.high)
+    if rest < 0 {
+        return arc.low;
+    }
+    if rest > 0 {
+        return arc.high;
+    }
+    x
 }
 
 // Brings arc `i` to its least flow for the prices.
