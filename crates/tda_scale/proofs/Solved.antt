@@ -57,8 +57,8 @@ begun_tracked net flow spots h e = record {
       omega (arith, ints);
 }
 
-pub begun_priced : (net : Network) (flow : List ℕ) (p : ℕ → ℤ) → IsSound net → IsCirculation net flow → IsPriced square net (2 ^ 31) flow p
-begun_priced net flow p sound h = priced_high square net (2 ^ 31) flow p sound (omega arith) (λ k l. (h.within k l).1)
+pub high_priced : (net : Network) (flow : List ℕ) (spots : List Spot) (p : ℕ → ℤ) → IsSound net → IsTracked net flow spots → IsPriced square net (2 ^ 31) flow p
+high_priced net flow spots p sound h = priced_high square net (2 ^ 31) flow p sound (omega arith) (λ k l. (h.within k l).1)
 
 -- prices less that of the hub
 pub record IsSolved (curve : ℤ → ℤ) (net : Network) (flow : List ℕ) (prices : List ℤ) : Type 0 where
@@ -132,3 +132,6 @@ room_less n m n' m' t l k h = record {
 
 pub wider_at : (a b : ℕ) (z : ℤ) → a ≤ b → IsWithin a z → IsWithin b z
 wider_at a b z l k = record { low = omega (arith, ints, k.low); high = omega (arith, ints, k.high) }
+
+pub power_some : (n : ℕ) → 1 ≤ 2 ^ n
+power_some n = let b : 2 ^ 0 ≤ 2 ^ n = pow_mono {i = 0} {j = n} (omega arith) in omega (arith, b)

@@ -184,7 +184,7 @@ fn set_prices(prices: &[i128], spots: &mut [Spot])
 }
 
 // Whether a solve begins with these prices: not all are 0, and none passes 2^88 either way.
-pub(crate) fn are_warm(prices: &[i128]) -> bool
+fn are_warm(prices: &[i128]) -> bool
     ensures { IsTrue result → (v : ℕ) → v < length prices.now → IsWithin (2 ^ 88) (price_at prices.now v) }
 {
     prices.iter().any(|p| *p != 0) && prices.iter().all(|p| -MOST <= *p && *p <= MOST)
@@ -216,7 +216,7 @@ fn phases_for(most: i64) -> u32
 }
 
 // Begins with the prices that were handed in, and answers how many phases there are to be.
-pub(crate) fn warm(body: &Body, prices: &[i128], flow: &mut [u64], spots: &mut [Spot]) -> u32
+fn warm(body: &Body, prices: &[i128], flow: &mut [u64], spots: &mut [Spot]) -> u32
     requires body { IsBody body.now }
     requires tracked { IsTracked body.now.net.now flow.old spots.old }
     requires fresh { AreFresh spots.old }
@@ -232,4 +232,27 @@ pub(crate) fn warm(body: &Body, prices: &[i128], flow: &mut [u64], spots: &mut [
     set_prices(prices, spots);
     settle(body, flow, spots);
     phases_for(greatest_excess(spots))
+}
+
+// Begins a solve, and answers how many phases there are to be: with the prices that were handed in, or
+// else with all prices 0 and the flow as it is, where the first step size is 2^30.
+pub(crate) fn start(body: &Body, prices: &[i128], flow: &mut [u64], spots: &mut [Spot]) -> u32
+    requires body { IsBody body.now }
+    requires tracked { IsTracked body.now.net.now flow.old spots.old }
+    requires fresh { AreFresh spots.old }
+    requires count { length prices.now ≡ length spots.old }
+    requires small { AreWithin (2 ^ 88) spots.old }
+    ensures priced { IsPriced square body.now.net.now (2 ^ result) flow.new (price_of spots.new) }
+    ensures tracked { IsTracked body.now.net.now flow.new spots.new }
+    ensures fresh { AreFresh spots.new }
+    ensures small { AreWithin (2 ^ 88) spots.new }
+    ensures some { 1 ≤ result }
+    ensures few { result ≤ 31 }
+{
+    let _nodes = body.net.nodes();
+    if are_warm(prices) {
+        warm(body, prices, flow, spots)
+    } else {
+        31
+    }
 }
