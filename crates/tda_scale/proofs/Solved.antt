@@ -1,5 +1,5 @@
 -- What is left after the last phase.
-use Rattle.std.proofs.Common.{◌≡◌, ℕ, suc, ◌+◌, ◌-◌, ◌^◌, ◌<◌, ◌≤◌, ℤ, pos, ◌+ℤ◌, ◌-ℤ◌, ◌*ℤ◌, ◌≤ℤ◌, refl, sym, ap, subst, ◌∙◌, Bool, true, false, cond, List, length, replicate, inl, inr, arith}
+use Rattle.std.proofs.Common.{◌≡◌, ℕ, suc, ◌+◌, ◌-◌, ◌^◌, ◌<◌, ◌≤◌, ℤ, pos, ◌-ℤ◌, ◌*ℤ◌, ◌≤ℤ◌, ap, subst, ◌∙◌, Bool, true, false, cond, List, length, replicate, inl, inr, arith}
 use Rattle.std.proofs.lemmas.Int.{ints}
 use Rattle.std.proofs.Math.Nat.{two-pow-succ}
 use Rattle.std.proofs.Math.Pow.{pow_mono}
@@ -8,12 +8,10 @@ use Rattle.std.proofs.lemmas.List.{get_or_past, get_or-replicate, length-replica
 use Rattle.tda_loss.specs.declared.Curve.{Curve}
 use Rattle.tda_loss.specs.declared.Curve.TheVariants.{Square}
 use Rattle.tda_loss.specs.Curve.{value_of, IsWithin}
-use Rattle.tda_flow.specs.declared.net.Turn.{Turn}
-use Rattle.tda_flow.specs.Network.{Network, arc_count, arc_at, IsSound}
+use Rattle.tda_flow.specs.Network.{Network, arc_at, IsSound}
 use Rattle.tda_flow.specs.Turns.{turn_from, turn_to}
 use Rattle.tda_flow.specs.Flow.{IsCirculation}
 use Rattle.tda_flow.specs.Certificate.{price_at, IsCertified, ArePrices}
-use Rattle.tda_flow.specs.Walk.{IsUsable, net_space, turn_cost}
 use Rattle.tda_scale.specs.declared.spots.Spot.{Spot}
 use Rattle.tda_scale.specs.Spots.{is_found, spot_at, no_spot}
 use Rattle.tda_scale.specs.Priced.{turn_gap, IsPriced}

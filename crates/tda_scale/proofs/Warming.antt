@@ -1,13 +1,12 @@
 -- Flows that are least for prices that were handed in.
-use Rattle.std.proofs.Common.{◌≡◌, ◌≢◌, ℕ, suc, ◌+◌, ◌-◌, ◌*◌, ◌/◌, ◌%◌, ◌^◌, ◌<◌, ◌≤◌, ℤ, pos, negsuc, neg_ℤ, ◌+ℤ◌, ◌-ℤ◌, ◌*ℤ◌, ◌≤ℤ◌, ◌<ℤ◌, refl, sym, ap, subst, ◌∙◌, List, length, slice_index, set, inl, inr, arith, length-set, Bool, true, false, cond, ltb}
+use Rattle.std.proofs.Common.{◌≡◌, ℕ, ◌+◌, ◌-◌, ◌*◌, ◌<◌, ◌≤◌, ℤ, pos, neg_ℤ, ◌+ℤ◌, ◌-ℤ◌, ◌*ℤ◌, ◌≤ℤ◌, ◌<ℤ◌, refl, sym, ap, subst, ◌∙◌, List, length, slice_index, set, inl, inr, arith, length-set, Bool, true, false, cond, ltb}
 use Rattle.std.proofs.lemmas.Int.{ints, by_lt_z}
 use Rattle.std.proofs.lemmas.Bool.{cases_eq, cases_lt, ltb-true, ltb-false}
 use Rattle.std.proofs.lemmas.List.{get_or_past}
 use Rattle.tda_loss.specs.Curve.{IsWithin}
 use Rattle.tda_loss.proofs.Ring.{mul-add, mul-sub, pos-mul-le}
 use Rattle.tda_flow.specs.declared.net.Arc.{Arc}
-use Rattle.tda_flow.specs.declared.net.Term.{Term}
-use Rattle.tda_flow.specs.Network.{Network, arc_count, arc_at, terms_at}
+use Rattle.tda_flow.specs.Network.{Network, arc_at, terms_at}
 use Rattle.tda_flow.specs.Flow.{arc_cost}
 use Rattle.tda_flow.specs.Certificate.{price_at}
 use Rattle.tda_flow.specs.Walk.{stepped, bumped}
@@ -15,14 +14,13 @@ use Rattle.tda_flow.proofs.Changes.{flow-here}
 use Rattle.tda_scale.specs.declared.slopes.Slope.{Slope}
 use Rattle.tda_scale.specs.declared.spots.Spot.{Spot}
 use Rattle.tda_scale.specs.Slopes.{IsSlope}
-use Rattle.tda_scale.specs.Spots.{no_spot, spot_at, priced_spot, is_found}
+use Rattle.tda_scale.specs.Spots.{no_spot, spot_at, priced_spot}
 use Rattle.tda_scale.specs.Quotes.{up_rate, down_rate}
-use Rattle.tda_scale.specs.Searching.{price_of, AreFresh}
 use Rattle.tda_scale.specs.Adjusted.{Keeps, KeepsAt}
 use Rattle.tda_scale.specs.Tracked.{IsTracked}
 use Rattle.tda_scale.specs.Phase.{square, AreWithin}
 use Rattle.tda_scale.specs.Warm.{ArePriced}
-use Rattle.tda_scale.proofs.Quoted.{cost_up, cost_down}
+use Rattle.tda_scale.proofs.Adjusting.{keeps_rates}
 use Rattle.tda_scale.proofs.Searched.{spot-here, spot-other}
 
 -- the least and the greatest of the least flows
@@ -81,22 +79,6 @@ flat_up s g y e h = let a = ap (λ w. pos ((2 * y + 1) * w)) e in omega (arith, 
 
 pub flat_down : (s : Slope) (g : ℤ) (y : ℕ) → s.weight ≡ 0 → pos 0 ≤ℤ (g +ℤ s.pull -ℤ pos s.weight) → neg_ℤ g ≤ℤ down_rate s 1 y
 flat_down s g y e h = let a = ap (λ w. pos ((2 * y - 1) * w)) e in omega (arith, ints, a, h)
-
--- a flow whose rates don't pass the gap keeps the conditions of its arc
-pub keeps_rates : (terms : List Term) (s : Slope) (arc : Arc) (d x : ℕ) (g : ℤ) → IsSlope terms s → (x + d ≤ arc.high → g ≤ℤ up_rate s d x) → (arc.low + d ≤ x → neg_ℤ g ≤ℤ down_rate s d x)
-    → Keeps (arc_cost square terms) arc.low arc.high g d x
-keeps_rates terms s arc d x g sl up down = record {
-  up = λ room. let e = cost_up terms s d x sl in let m = pos-mul-le d g (up_rate s d x) (up room) in omega (arith, ints);
-  down =
-      λ room.
-      let e = cost_down terms s d x (omega arith) sl in
-      let m = pos-mul-le d (neg_ℤ g) (down_rate s d x) (down room) in
-      let n : neg_ℤ g ≡ pos 0 -ℤ g = omega (arith, ints) in
-      let o = ap (λ z. pos d *ℤ z) n in
-      let p = mul-sub (pos d) (pos 0) g in
-      let z : pos d *ℤ pos 0 ≡ pos 0 = omega (arith, ints) in
-      omega (arith, ints);
-}
 
 pub settled_arc : (net : Network) (slope : Slope) (k y : ℕ) (more : List ℕ) (p q : ℕ → ℤ) (arc : Arc) (g : ℤ) → arc ≡ arc_at net k → g ≡ p arc.to -ℤ p arc.from → ((v : ℕ) → q v ≡ p v) → IsSlope (terms_at net k) slope
     → slice_index more k ≡ y → (y + 1 ≤ arc.high → g ≤ℤ up_rate slope 1 y) → (arc.low + 1 ≤ y → neg_ℤ g ≤ℤ down_rate slope 1 y)

@@ -25,16 +25,16 @@ use tda_loss::{Curve, Loss};
 
 /// A solver by capacity scaling, for the square.
 ///
-/// It works in phases with step sizes from 2^30 down to 1, each half of the one before. A phase first takes a step on each arc
-/// where that pays. Then it sends flow in steps along cheapest walks, from each node that has a step too
-/// much to the nearest one with a step too little, until no such walk is left. What is left over stays
-/// for the next phase; at the step size 1 nothing is left. Each walk is found by a search of its own
-/// (Dijkstra's, by reduced costs), which ends at the first such node and changes the prices of the nodes
-/// nearer than that alone.
+/// It works in phases with step sizes from 2^30 down to 1, each half of the one before. A phase
+/// first takes a step on each arc where that pays. Then it sends flow in steps along cheapest
+/// walks, from each node that has a step too much to the nearest one with a step too little, until
+/// no such walk is left. What is left over stays for the next phase; at the step size 1 nothing is
+/// left. Each walk is found by a search of its own (Dijkstra's, by reduced costs), which ends at
+/// the first such node and changes the prices of the nodes nearer than that alone.
 ///
-/// The prices handed in are a guess. Where they are not all 0 and none passes 2^88 either way, each arc
-/// begins at its least flow for them, and the first step size is the least power of two that covers what
-/// each node has too much then. A wrong guess costs time alone.
+/// The prices handed in are a guess. Where they are not all 0 and none passes 2^88 either way, each
+/// arc begins at its least flow for them, and the first step size is the least power of two that
+/// covers what each node has too much then. A wrong guess costs time alone.
 #[derive(Drop)]
 pub struct Scale {
     nodes: u32,

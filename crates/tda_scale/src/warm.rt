@@ -101,8 +101,8 @@ fn most_of(z: i128, n: u64) -> i128
     floor_div(z, n) + 1
 }
 
-// A least flow of an arc for a gap between the prices of its ends, the nearest to the flow `x`. With the
-// weight w and the pull, the unit from x to x + 1 costs w · (2x + 1) - pull.
+// A least flow of an arc for a gap between the prices of its ends, the nearest to the flow `x`.
+// With the weight w and the pull, the unit from x to x + 1 costs w · (2x + 1) - pull.
 fn least_flow(slope: Slope, arc: Arc, gap: i128, x: u64) -> u64
     requires slope { IsSlight slope }
     requires high { arc.high ≤ 2 ^ 30 }
@@ -147,7 +147,15 @@ fn settle_arc(body: &Body, i: usize, flow: &mut [u64], spots: &mut [Spot])
     let turn = Turn { arc: i, back };
     let from = turn.start(body.net);
     let to = turn.end(body.net);
-    send(body.net, &[turn], from, to, least.abs_diff(had), flow, spots);
+    send(
+        body.net,
+        &[turn],
+        from,
+        to,
+        least.abs_diff(had),
+        flow,
+        spots,
+    );
 }
 
 // Brings all arcs to their least flows for the prices.

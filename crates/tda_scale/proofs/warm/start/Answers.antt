@@ -1,4 +1,4 @@
-use Rattle.std.proofs.Common.{◌^◌, arith}
+use Rattle.std.proofs.Common.{◌^◌}
 use Rattle.tda_loss.specs.declared.Curve.TheVariants.{Square}
 use Rattle.tda_loss.proofs.Laws.{IsCurve-value_of}
 use Rattle.tda_scale.specs.Searching.{price_of}

@@ -1,5 +1,4 @@
 use Rattle.std.proofs.Common.{◌^◌, ◌∙◌, ap, refl, arith}
-use Rattle.std.proofs.lemmas.Int.{ints}
 use Rattle.tda_scale.specs.Spots.{is_found}
 use Rattle.tda_scale.proofs.Warming.{priced_within, priced_tracked}
 use Rattle.tda_scale.proofs.Solved.{wider_at}

@@ -1,4 +1,4 @@
-use Rattle.std.proofs.Common.{◌≡◌, ℕ, ◌^◌, ◌<◌, ◌≤◌, ◌∙◌, ◌-ℤ◌, ap, sym, subst, length, replicate, arith}
+use Rattle.std.proofs.Common.{◌≡◌, ℕ, ◌^◌, ◌<◌, ◌∙◌, ◌-ℤ◌, ap, sym, subst, length, replicate, arith}
 use Rattle.tda_flow.specs.Network.{arc_count}
 use Rattle.tda_flow.specs.Certificate.{price_at}
 use Rattle.tda_scale.specs.Size.{Size}
@@ -9,7 +9,6 @@ use Rattle.tda_scale.specs.Tracked.{IsTracked}
 use Rattle.tda_scale.specs.Phase.{square, AreWithin}
 use Rattle.tda_scale.proofs.Solved.{solved, certified_curve, room_less, begun_tracked, begun_fresh, begun_small}
 use Rattle.std.proofs.lemmas.List.{with_items_is}
-use Rattle.std.specs.Vec.{with_items}
 use Rattle.tda_scale.proofs.scale.ScaleSolver.solve.Goals as goal
 
 pub run_phases-requires-clause-own_room : goal.run_phases-requires-clause-own_room
