@@ -1,7 +1,9 @@
 -- An arc is adjusted from one step size to half of it.
-use Rattle.std.proofs.Common.{◌≡◌, ◌≢◌, ℕ, ◌+◌, ◌-◌, ◌<◌, ◌≤◌, ℤ, pos, neg_ℤ, ◌+ℤ◌, ◌-ℤ◌, ◌*ℤ◌, ◌≤ℤ◌, ◌<ℤ◌, Bool, true, false, cond, refl, sym, ap, subst, ◌∙◌, List, [], ◌∷◌, All, length, slice_index, Option, Some, inl, inr, arith}
+use Rattle.std.proofs.Common.{◌≡◌, ◌≢◌, ℕ, ◌+◌, ◌-◌, ◌<◌, ◌≤◌, ℤ, pos, neg_ℤ, ◌+ℤ◌, ◌-ℤ◌, ◌*ℤ◌, ◌≤ℤ◌, ◌<ℤ◌, Bool, true, false, cond, sym, ap, subst, ◌∙◌, List, [], ◌∷◌, length, slice_index, inl, inr, arith, ◌^◌, to_z, of_z}
+use Rattle.std.specs.Int.{w128}
 use Rattle.std.proofs.lemmas.Int.{ints, by_lt_z}
-use Rattle.std.proofs.lemmas.Bool.{cases_eq, cases_lt}
+use Rattle.tda_loss.specs.Curve.{IsWithin}
+use Rattle.std.proofs.lemmas.Bool.{cases_eq}
 use Rattle.std.proofs.lemmas.List.Elements.{All-nil, All-cons}
 use Rattle.tda_loss.proofs.Ring.{mul-add, mul-sub, pos-mul-le}
 use Rattle.tda_flow.specs.declared.net.Arc.{Arc}
@@ -24,32 +26,38 @@ use Rattle.tda_scale.specs.Phase.{square}
 use Rattle.tda_scale.proofs.Arcs.{adjust_up, adjust_down, keeps_of_priced, priced_of_keeps}
 use Rattle.tda_scale.proofs.Quoted.{cost_up, cost_down, up_quoted, down_quoted}
 
+-- the gap, as the code passes it on
+pub gap_is : (g p q : ℤ) → IsWithin (2 ^ 93) g → g ≡ p -ℤ q → to_z w128 (of_z w128 g) ≡ p -ℤ q
+gap_is g p q h e = omega (arith, ints, h.low, h.high)
+
 times-less : (d : ℕ) (a b : ℤ) → 1 ≤ d → a <ℤ b → (pos d *ℤ a) <ℤ (pos d *ℤ b)
 times-less d a b one l =
     let more : (a +ℤ pos 1) ≤ℤ b = omega (arith, ints) in
     omega (arith, ints, pos-mul-le d (a +ℤ pos 1) b more, mul-add (pos d) a (pos 1))
 
--- no step pays
-stays : (terms : List Term) (s : Slope) (arc : Arc) (d x : ℕ) (q : Quote) (g : ℤ) → IsSlope terms s → IsQuoteOf s arc d x q → (¬ (Pays q.up g)) → (¬ (Pays q.down (neg_ℤ g)))
+-- a flow whose rates don't pass the gap keeps the conditions of its arc
+pub keeps_rates : (terms : List Term) (s : Slope) (arc : Arc) (d x : ℕ) (g : ℤ) → IsSlope terms s → (x + d ≤ arc.high → g ≤ℤ up_rate s d x) → (arc.low + d ≤ x → neg_ℤ g ≤ℤ down_rate s d x)
     → Keeps (arc_cost square terms) arc.low arc.high g d x
-stays terms s arc d x q g sl h no_up no_down = record {
-  up =
-      λ room.
-      let e = cost_up terms s d x sl in
-      by_lt_z (up_rate s d x) g (λ less. absurd (no_up (up_rate s d x, h.up room, less)))
-      (λ ok. let m = pos-mul-le d g (up_rate s d x) (omega (arith, ints)) in omega (arith, ints));
+keeps_rates terms s arc d x g sl up down = record {
+  up = λ room. let e = cost_up terms s d x sl in let m = pos-mul-le d g (up_rate s d x) (up room) in omega (arith, ints);
   down =
       λ room.
       let e = cost_down terms s d x (omega arith) sl in
-      by_lt_z (down_rate s d x) (neg_ℤ g) (λ less. absurd (no_down (down_rate s d x, h.down room, less)))
-      (λ ok.
-      let m = pos-mul-le d (neg_ℤ g) (down_rate s d x) (omega (arith, ints)) in
+      let m = pos-mul-le d (neg_ℤ g) (down_rate s d x) (down room) in
       let n : neg_ℤ g ≡ pos 0 -ℤ g = omega (arith, ints) in
       let o = ap (λ z. pos d *ℤ z) n in
       let p = mul-sub (pos d) (pos 0) g in
       let z : pos d *ℤ pos 0 ≡ pos 0 = omega (arith, ints) in
-      omega (arith, ints));
+      omega (arith, ints);
 }
+
+-- no step pays
+stays : (terms : List Term) (s : Slope) (arc : Arc) (d x : ℕ) (q : Quote) (g : ℤ) → IsSlope terms s → IsQuoteOf s arc d x q → (¬ (Pays q.up g)) → (¬ (Pays q.down (neg_ℤ g)))
+    → Keeps (arc_cost square terms) arc.low arc.high g d x
+stays terms s arc d x q g sl h no_up no_down =
+    keeps_rates terms s arc d x g sl
+    (λ room. by_lt_z (up_rate s d x) g (λ less. absurd (no_up (up_rate s d x, h.up room, less))) (λ ok. omega (arith, ints)))
+    (λ room. by_lt_z (down_rate s d x) (neg_ℤ g) (λ less. absurd (no_down (down_rate s d x, h.down room, less))) (λ ok. omega (arith, ints)))
 
 -- a step up pays
 rises : (terms : List Term) (s : Slope) (arc : Arc) (d x : ℕ) (q : Quote) (g : ℤ) → 1 ≤ d → IsSlope terms s → IsQuoteOf s arc d x q → Pays q.up g

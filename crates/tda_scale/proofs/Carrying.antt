@@ -1,31 +1,31 @@
 -- A piece that is sent to the node that a search found.
-use Rattle.std.proofs.Common.{◌≡◌, ◌⊎◌, ℕ, ◌+◌, ◌*◌, ◌^◌, ◌<◌, ◌≤◌, ℤ, pos, neg_ℤ, ◌+ℤ◌, ◌-ℤ◌, ◌*ℤ◌, ◌≤ℤ◌, ◌<ℤ◌, Bool, true, false, cond, eqb, refl, sym, ap, subst, ◌∙◌, List, All, length, slice_index, inl, inr, arith}
+use Rattle.std.proofs.Common.{◌≡◌, ℕ, ◌+◌, ◌^◌, ◌≤◌, ℤ, pos, neg_ℤ, ◌+ℤ◌, ◌-ℤ◌, ◌*ℤ◌, ◌≤ℤ◌, Bool, true, false, cond, eqb, refl, sym, ap, subst, ◌∙◌, List, length, inl, inr, arith}
 use Rattle.std.proofs.lemmas.Int.{ints}
 use Rattle.std.proofs.lemmas.Bool.{cases_eq, eq-eqb, ne_eqb}
-use Rattle.tda_loss.specs.Curve.{value_of, IsWithin}
+use Rattle.tda_loss.specs.Curve.{IsWithin}
 use Rattle.tda_loss.specs.declared.Curve.TheVariants.{Square}
 use Rattle.tda_loss.proofs.Laws.{IsCurve-value_of}
 use Rattle.tda_flow.specs.declared.net.Turn.{Turn}
-use Rattle.tda_flow.specs.Network.{Network, arc_count, arc_at, IsSound}
+use Rattle.tda_flow.specs.Network.{Network, IsSound}
 use Rattle.tda_flow.specs.Turns.{turn_from, turn_to}
-use Rattle.tda_flow.specs.Walk.{IsUsable, IsWalk, IsApart, net_space, moved}
+use Rattle.tda_flow.specs.Walk.{IsWalk, net_space, moved}
 use Rattle.tda_scale.specs.declared.spots.Spot.{Spot}
 use Rattle.tda_scale.specs.declared.spots.Quote.{Quote}
 use Rattle.tda_scale.specs.declared.slopes.Slope.{Slope}
 use Rattle.tda_scale.specs.Slopes.{AreSlopes}
-use Rattle.tda_scale.specs.Spots.{is_found, is_done, spot_at, quote_of, labels_of, closed_spot, cleared_spot}
-use Rattle.tda_scale.specs.Priced.{turn_gap, IsPriced, IsQuoted, IsWorth}
+use Rattle.tda_scale.specs.Spots.{is_found, is_done, spot_at, quote_of, labels_of, closed_spot}
+use Rattle.tda_scale.specs.Priced.{turn_gap, IsPriced}
 use Rattle.tda_scale.specs.Labels.{IsLabelled}
-use Rattle.tda_scale.specs.Searching.{price_of, AreNear, AreFresh, IsFinished, IsTarget, IsEnded, IsBook}
+use Rattle.tda_scale.specs.Searching.{price_of, AreNear, IsFinished, IsTarget}
 use Rattle.tda_scale.specs.Spelled.{IsTree, IsSpelled, IsWhole}
 use Rattle.tda_scale.specs.Quotes.{AreQuotes}
-use Rattle.tda_scale.specs.Tracked.{IsTracked, IsShift, AreSame, HasCirculation}
-use Rattle.tda_scale.specs.Phase.{square, IsFloored, NoneGains, AreWithin}
-use Rattle.tda_scale.proofs.Repriced.{repriced, worth_of_priced, priced_of_worth}
+use Rattle.tda_scale.specs.Tracked.{IsTracked, IsShift}
+use Rattle.tda_scale.specs.Phase.{square, IsFloored, NoneGains}
+use Rattle.tda_scale.proofs.Repriced.{repriced}
 use Rattle.tda_scale.proofs.Ends.{IsTrail, IsAugmented, augmented, near}
 use Rattle.tda_scale.proofs.Searched.{are_arcs}
 use Rattle.tda_scale.proofs.Spelling.{tree_of_labelled, trail_of_spelled}
-use Rattle.tda_scale.proofs.Turned.{turned_priced, turned_finds, turned_small}
+use Rattle.tda_scale.proofs.Turned.{turned_priced, turned_small}
 use Rattle.tda_scale.proofs.Quoted.{quoted_of_quotes, near_of_quotes}
 
 -- the search as one that began with what it left

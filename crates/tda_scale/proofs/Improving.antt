@@ -1,8 +1,7 @@
 -- What a search changes, whether it finds a node or not.
-use Rattle.std.proofs.Common.{◌≡◌, ◌⊎◌, ℕ, ◌<◌, ◌≤◌, ◌^◌, ℤ, pos, neg_ℤ, ◌≤ℤ◌, refl, sym, ap, subst, ◌∙◌, List, length, inl, inr, arith}
+use Rattle.std.proofs.Common.{◌≡◌, ℕ, ◌<◌, ◌≤◌, ℤ, pos, ◌≤ℤ◌, sym, ap, subst, ◌∙◌, List, length, inl, inr, arith}
 use Rattle.std.proofs.lemmas.Int.{ints}
 use Rattle.tda_flow.specs.Network.{Network, IsSound}
-use Rattle.tda_flow.specs.Flow.{IsCirculation}
 use Rattle.tda_scale.specs.declared.spots.Spot.{Spot}
 use Rattle.tda_scale.specs.declared.spots.Quote.{Quote}
 use Rattle.tda_scale.specs.declared.slopes.Slope.{Slope}

@@ -1,5 +1,5 @@
 -- Quotes that are made from slopes.
-use Rattle.std.proofs.Common.{◌≡◌, ℕ, ◌+◌, ◌-◌, ◌*◌, ◌^◌, ◌<◌, ◌≤◌, ℤ, pos, neg_ℤ, ◌+ℤ◌, ◌-ℤ◌, ◌*ℤ◌, ◌≤ℤ◌, Bool, true, false, cond, refl, sym, ap, subst, ◌∙◌, List, [], ◌∷◌, length, slice_index, get_or, drop, set, Option, Some, None, inl, inr, arith, length-set, get_or-set_same, get_or-set_other}
+use Rattle.std.proofs.Common.{◌≡◌, ℕ, ◌+◌, ◌-◌, ◌*◌, ◌^◌, ◌<◌, ◌≤◌, ℤ, pos, neg_ℤ, ◌+ℤ◌, ◌-ℤ◌, ◌*ℤ◌, Bool, true, false, refl, sym, ap, subst, ◌∙◌, List, length, slice_index, get_or, drop, set, Option, Some, None, inl, inr, arith, length-set, get_or-set_same, get_or-set_other}
 use Rattle.std.proofs.lemmas.Int.{ints}
 use Rattle.std.proofs.lemmas.Bool.{cases_eq, cases_lt}
 use Rattle.std.proofs.lemmas.List.{drop_more}
@@ -14,7 +14,7 @@ use Rattle.tda_flow.specs.Walk.{IsUsable, net_space, turn_cost, moved, AvoidsArc
 use Rattle.tda_flow.proofs.Moves.{flow-avoided}
 use Rattle.tda_scale.specs.declared.slopes.Slope.{Slope}
 use Rattle.tda_scale.specs.declared.spots.Quote.{Quote}
-use Rattle.tda_scale.specs.Slopes.{weight_of, moment_of, rate_up, IsSlope, IsSlight, AreSlopes, slope_at}
+use Rattle.tda_scale.specs.Slopes.{rate_up, IsSlope, AreSlopes, slope_at}
 use Rattle.tda_scale.specs.Spots.{no_quote, quote_of, no_turn}
 use Rattle.tda_scale.specs.Priced.{IsQuoted}
 use Rattle.tda_scale.specs.Searching.{AreNear}

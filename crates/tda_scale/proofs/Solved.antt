@@ -1,5 +1,5 @@
 -- What is left after the last phase.
-use Rattle.std.proofs.Common.{◌≡◌, ℕ, suc, ◌+◌, ◌-◌, ◌^◌, ◌<◌, ◌≤◌, ℤ, pos, ◌+ℤ◌, ◌-ℤ◌, ◌*ℤ◌, ◌≤ℤ◌, refl, sym, ap, subst, ◌∙◌, Bool, true, false, cond, List, length, replicate, inl, inr, arith}
+use Rattle.std.proofs.Common.{◌≡◌, ℕ, suc, ◌+◌, ◌-◌, ◌^◌, ◌<◌, ◌≤◌, ℤ, pos, ◌-ℤ◌, ◌*ℤ◌, ◌≤ℤ◌, ap, subst, ◌∙◌, Bool, true, false, cond, List, length, replicate, inl, inr, arith}
 use Rattle.std.proofs.lemmas.Int.{ints}
 use Rattle.std.proofs.Math.Nat.{two-pow-succ}
 use Rattle.std.proofs.Math.Pow.{pow_mono}
@@ -8,12 +8,10 @@ use Rattle.std.proofs.lemmas.List.{get_or_past, get_or-replicate, length-replica
 use Rattle.tda_loss.specs.declared.Curve.{Curve}
 use Rattle.tda_loss.specs.declared.Curve.TheVariants.{Square}
 use Rattle.tda_loss.specs.Curve.{value_of, IsWithin}
-use Rattle.tda_flow.specs.declared.net.Turn.{Turn}
-use Rattle.tda_flow.specs.Network.{Network, arc_count, arc_at, IsSound}
+use Rattle.tda_flow.specs.Network.{Network, arc_at, IsSound}
 use Rattle.tda_flow.specs.Turns.{turn_from, turn_to}
 use Rattle.tda_flow.specs.Flow.{IsCirculation}
 use Rattle.tda_flow.specs.Certificate.{price_at, IsCertified, ArePrices}
-use Rattle.tda_flow.specs.Walk.{IsUsable, net_space, turn_cost}
 use Rattle.tda_scale.specs.declared.spots.Spot.{Spot}
 use Rattle.tda_scale.specs.Spots.{is_found, spot_at, no_spot}
 use Rattle.tda_scale.specs.Priced.{turn_gap, IsPriced}
@@ -57,8 +55,8 @@ begun_tracked net flow spots h e = record {
       omega (arith, ints);
 }
 
-pub begun_priced : (net : Network) (flow : List ℕ) (p : ℕ → ℤ) → IsSound net → IsCirculation net flow → IsPriced square net (2 ^ 31) flow p
-begun_priced net flow p sound h = priced_high square net (2 ^ 31) flow p sound (omega arith) (λ k l. (h.within k l).1)
+pub high_priced : (net : Network) (flow : List ℕ) (spots : List Spot) (p : ℕ → ℤ) → IsSound net → IsTracked net flow spots → IsPriced square net (2 ^ 31) flow p
+high_priced net flow spots p sound h = priced_high square net (2 ^ 31) flow p sound (omega arith) (λ k l. (h.within k l).1)
 
 -- prices less that of the hub
 pub record IsSolved (curve : ℤ → ℤ) (net : Network) (flow : List ℕ) (prices : List ℤ) : Type 0 where
@@ -129,3 +127,9 @@ room_less n m n' m' t l k h = record {
   found = let a = h.found in omega arith;
   walk = let a = h.walk in omega arith;
 }
+
+pub wider_at : (a b : ℕ) (z : ℤ) → a ≤ b → IsWithin a z → IsWithin b z
+wider_at a b z l k = record { low = omega (arith, ints, k.low); high = omega (arith, ints, k.high) }
+
+pub power_some : (n : ℕ) → 1 ≤ 2 ^ n
+power_some n = let b : 2 ^ 0 ≤ 2 ^ n = pow_mono {i = 0} {j = n} (omega arith) in omega (arith, b)

@@ -1,5 +1,5 @@
 -- What the nodes have too much, as flow is sent.
-use Rattle.std.proofs.Common.{◌≡◌, ℕ, ◌+◌, ◌*◌, ◌^◌, ◌<◌, ◌≤◌, ℤ, pos, neg_ℤ, ◌+ℤ◌, ◌-ℤ◌, ◌≤ℤ◌, Bool, true, false, cond, eqb, refl, sym, ap, subst, ◌∙◌, List, length, slice_index, set, inl, inr, arith, length-set}
+use Rattle.std.proofs.Common.{◌≡◌, ℕ, ◌^◌, ◌<◌, ◌≤◌, ℤ, pos, neg_ℤ, ◌+ℤ◌, ◌-ℤ◌, ◌≤ℤ◌, Bool, true, false, cond, eqb, sym, ap, subst, ◌∙◌, List, length, slice_index, set, inl, inr, arith, length-set}
 use Rattle.std.proofs.lemmas.Int.{ints}
 use Rattle.std.proofs.lemmas.Bool.{cases_eq, cases_lt, eq-eqb, ne_eqb}
 use Rattle.std.proofs.lemmas.List.{get_or_past}
@@ -9,7 +9,7 @@ use Rattle.tda_flow.proofs.Sums.{sum_below-le, sum_below-zero}
 use Rattle.tda_flow.specs.declared.net.Turn.{Turn}
 use Rattle.tda_flow.specs.Network.{Network, arc_count, arc_at, IsSound}
 use Rattle.tda_flow.specs.Flow.{into, out_of, IsWithinBounds}
-use Rattle.tda_flow.specs.Walk.{IsWalk, IsApart, IsBounded, net_space, moved, CanMove}
+use Rattle.tda_flow.specs.Walk.{IsWalk, IsApart, net_space, moved}
 use Rattle.tda_flow.proofs.Sent.{IsSent, sent-distinct}
 use Rattle.tda_flow.proofs.Walks.{distinct_of_apart}
 use Rattle.tda_scale.specs.declared.spots.Spot.{Spot}

@@ -1,5 +1,5 @@
 -- A phase at work.
-use Rattle.std.specs.Prelude.{◌≡◌, ◌⊎◌, ℕ, ◌+◌, ◌*◌, ◌^◌, ◌<◌, ◌≤◌, List, length, vec_len, vec_capacity, ℤ, pos, neg_ℤ, ◌≤ℤ◌}
+use Rattle.std.specs.Prelude.{◌≡◌, ◌⊎◌, ℕ, ◌+◌, ◌*◌, ◌^◌, ◌≤◌, List, vec_len, vec_capacity, ℤ, pos, neg_ℤ, ◌≤ℤ◌}
 use Rattle.tda_loss.specs.declared.Curve.TheVariants.{Square}
 use Rattle.tda_loss.specs.Curve.{value_of, IsWithin}
 use Rattle.tda_flow.specs.Network.{Network, arc_count}

@@ -1,5 +1,5 @@
 -- What a step costs per unit on each arc.
-use Rattle.std.specs.Prelude.{◌≡◌, ℕ, ◌+◌, ◌*◌, ◌-◌, ◌<◌, ◌≤◌, List, length, slice_index, slice_index_or, Option, Some, None, ℤ, pos, neg_ℤ, ◌-ℤ◌}
+use Rattle.std.specs.Prelude.{◌≡◌, ℕ, ◌+◌, ◌*◌, ◌-◌, ◌<◌, ◌≤◌, List, length, slice_index, slice_index_or, Some, None, ℤ, pos, neg_ℤ, ◌-ℤ◌}
 use Rattle.tda_flow.specs.declared.net.Arc.{Arc}
 use Rattle.tda_flow.specs.declared.net.Turn.{Turn}
 use Rattle.tda_flow.specs.Network.{Network, arc_count, arc_at}

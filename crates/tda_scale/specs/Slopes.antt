@@ -1,5 +1,5 @@
 -- What a step costs on an arc by the square.
-use Rattle.std.specs.Prelude.{◌≡◌, ℕ, ◌+◌, ◌<◌, ◌≤◌, ◌^◌, List, length, slice_index_or, ℤ, pos, ◌+ℤ◌, ◌-ℤ◌, ◌*ℤ◌}
+use Rattle.std.specs.Prelude.{◌≡◌, ℕ, ◌<◌, ◌≤◌, ◌^◌, List, length, slice_index_or, ℤ, pos, ◌+ℤ◌, ◌-ℤ◌, ◌*ℤ◌}
 use Rattle.tda_loss.specs.Curve.{IsWithin}
 use Rattle.tda_flow.specs.Sum.{sum_below}
 use Rattle.tda_flow.specs.declared.net.Term.{Term}

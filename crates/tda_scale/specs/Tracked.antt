@@ -4,7 +4,6 @@ use Rattle.tda_flow.specs.Network.{Network, arc_count}
 use Rattle.tda_flow.specs.Flow.{into, out_of, IsCirculation, IsWithinBounds}
 use Rattle.tda_scale.specs.declared.spots.Spot.{Spot}
 use Rattle.tda_scale.specs.Spots.{spot_at}
-use Rattle.tda_scale.specs.Searching.{AreFresh}
 
 -- how much more comes into a node than goes out of it
 abbrev pub excess_of : Network → List ℕ → ℕ → ℤ

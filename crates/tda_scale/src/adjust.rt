@@ -17,7 +17,7 @@ use crate::spots::{Quote, Spot};
 use tda_flow::{Arc, Turn};
 
 // How much higher the price is at the end of an arc than at its start.
-fn gap_at(arc: Arc, spots: &[Spot]) -> i128
+pub(crate) fn gap_at(arc: Arc, spots: &[Spot]) -> i128
     requires from { arc.from < length spots.now }
     requires to { arc.to < length spots.now }
     requires small { (v : ℕ) → IsWithin (2 ^ 92) (spot_at spots.now v).price }

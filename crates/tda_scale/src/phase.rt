@@ -75,8 +75,8 @@ fn carry(
     requote(body, piece.step, flow, turns, quotes);
 }
 
-// Searches from a node with a step too much, and sends a step to the nearest node with a step too little.
-// Where there is none, it shuts the nodes that the search found.
+// Searches from a node with a step too much, and sends a step to the nearest node with a step too
+// little. Where there is none, it shuts the nodes that the search found.
 fn improve(body: &Body, step: u64, source: u32, flow: &mut [u64], tables: &mut Tables) -> bool
     requires body { IsBody body.now }
     requires some { 1 ≤ step }
@@ -130,7 +130,8 @@ fn improve(body: &Body, step: u64, source: u32, flow: &mut [u64], tables: &mut T
     true
 }
 
-// Sends steps from a node while it has a step too much and a search finds a node with a step too little.
+// Sends steps from a node while it has a step too much and a search finds a node with a step too
+// little.
 fn drain(body: &Body, step: u64, source: u32, flow: &mut [u64], tables: &mut Tables)
     requires body { IsBody body.now }
     requires some { 1 ≤ step }
@@ -153,8 +154,8 @@ fn drain(body: &Body, step: u64, source: u32, flow: &mut [u64], tables: &mut Tab
     }
 }
 
-// The phase of a step size, where the prices were right for twice as much. At the step size 1 no node has
-// too much afterwards.
+// The phase of a step size, where the prices were right for twice as much. At the step size 1 no
+// node has too much afterwards.
 pub(crate) fn phase(body: &Body, step: u64, flow: &mut [u64], tables: &mut Tables)
     requires body { IsBody body.now }
     requires some { 1 ≤ step }

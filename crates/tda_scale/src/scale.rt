@@ -16,6 +16,7 @@ use crate::quotes::Body;
 use crate::slopes::{Slope, list_slopes};
 use crate::spots::Spot;
 use crate::tables::Tables;
+use crate::warm::start;
 use std::alloc::Global;
 use std::marker::Model;
 use tda_flow::{Net, Solver};
@@ -24,12 +25,16 @@ use tda_loss::{Curve, Loss};
 
 /// A solver by capacity scaling, for the square.
 ///
-/// It works in phases with the step sizes 2^30, 2^29, down to 1. A phase first takes a step on each arc
-/// where that pays. Then it sends flow in steps along cheapest walks, from each node that has a step too
-/// much to the nearest one with a step too little, until no such walk is left. What is left over stays
-/// for the next phase; at the step size 1 nothing is left. Each walk is found by a search of its own
-/// (Dijkstra's, by reduced costs), which ends at the first such node and changes the prices of the nodes
-/// nearer than that alone.
+/// It works in phases with step sizes from 2^30 down to 1, each half of the one before. A phase
+/// first takes a step on each arc where that pays. Then it sends flow in steps along cheapest
+/// walks, from each node that has a step too much to the nearest one with a step too little, until
+/// no such walk is left. What is left over stays for the next phase; at the step size 1 nothing is
+/// left. Each walk is found by a search of its own (Dijkstra's, by reduced costs), which ends at
+/// the first such node and changes the prices of the nodes nearer than that alone.
+///
+/// The prices handed in are a guess. Where they are not all 0 and none passes 2^88 either way, each
+/// arc begins at its least flow for them, and the first step size is the least power of two that
+/// covers what each node has too much then. A wrong guess costs time alone.
 #[derive(Drop)]
 pub struct Scale {
     nodes: u32,
@@ -72,7 +77,7 @@ impl Scale {
 }
 
 // The step size 2^shift.
-fn step_size(shift: u32) -> u64
+pub(crate) fn step_size(shift: u32) -> u64
     requires { shift ≤ 30 }
     ensures { result ≡ 2 ^ shift }
 {
@@ -154,7 +159,8 @@ impl Solver for Scale {
             net,
             slopes: &self.slopes,
         };
-        run_phases(&body, 31, flow, &mut self.tables);
+        let phases = start(&body, prices, flow, &mut self.tables.spots);
+        run_phases(&body, phases, flow, &mut self.tables);
         write_prices(&self.tables.spots, prices);
     }
 }

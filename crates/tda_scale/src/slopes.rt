@@ -1,7 +1,7 @@
 // What a step costs on an arc by the square: a slope in the flow.
 //
-// From the flow x, a step of size d costs d · (weight · (2x + d) - pull), where the weight is the sum of
-// the terms' weights and the pull twice the sum of weight · target.
+// From the flow x, a step of size d costs d · (weight · (2x + d) - pull), where the weight is the
+// sum of the terms' weights and the pull twice the sum of weight · target.
 ghost use Rattle.std.specs.Prelude.{◌≡◌, ℕ, ◌<◌, ◌≤◌, ◌^◌, length, pos, ◌+ℤ◌, ◌*ℤ◌, vec_len, vec_capacity};
 ghost use Rattle.tda_loss.specs.Curve.{IsWithin};
 ghost use Rattle.tda_flow.specs.Network.{IsNetTerm, AreNetTerms, arc_count};

@@ -43,8 +43,8 @@ fn refill<T: Copy>(list: &mut Vec<T>, item: T, count: usize)
     }
 }
 
-// The nodes and arcs of a net, the nodes from which a search of this phase found none, the queue and the
-// nodes of a search, and the walk that it found.
+// The nodes and arcs of a net, the nodes from which a search of this phase found none, the queue
+// and the nodes of a search, and the walk that it found.
 #[derive(Drop)]
 pub(crate) struct Tables {
     pub(crate) spots: Vec<Spot>,

@@ -224,12 +224,15 @@ fn small_nets(rt: HostRuntime) {
 fn two_ways_back(rt: HostRuntime) {
     let net = net_of(rt.alloc(), &CASES[0]).expect(&rt, "memory");
     let mut solver = Scale::new(rt.alloc(), 65536, 1 << 20).expect(&rt, "memory");
-    let mut flow = [5, 5, 0];
-    let mut prices = [0, 0];
-    assert!(rt; solve(&mut solver, &net, &mut flow, &mut prices));
-    assert_eq!(rt; flow, [5, 2, 3]);
-    assert_eq!(rt; prices[0], 0);
-    assert!(rt; (1..=3).contains(&prices[1]));
+    // From all prices 0, and from a guess.
+    for guess in [[0, 0], [7, 20]] {
+        let mut flow = [5, 5, 0];
+        let mut prices = guess;
+        assert!(rt; solve(&mut solver, &net, &mut flow, &mut prices));
+        assert_eq!(rt; flow, [5, 2, 3]);
+        assert_eq!(rt; prices[0], 0);
+        assert!(rt; (1..=3).contains(&prices[1]));
+    }
     assert_eq!(rt; (solver.nodes(), solver.arcs()), (65536, 1 << 20));
     assert!(rt; solver.takes(Curve::Square));
 }

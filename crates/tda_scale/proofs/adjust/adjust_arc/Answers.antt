@@ -1,16 +1,9 @@
-use Rattle.std.proofs.Common.{◌≡◌, ◌^◌, ℤ, ◌-ℤ◌, to_z, of_z, refl, arith}
-use Rattle.std.specs.Int.{w128}
-use Rattle.std.proofs.lemmas.Int.{ints}
-use Rattle.tda_loss.specs.Curve.{IsWithin}
+use Rattle.std.proofs.Common.{refl}
 use Rattle.tda_scale.specs.Slopes.{slope_at}
 use Rattle.tda_scale.specs.Searching.{price_of}
-use Rattle.tda_scale.proofs.Adjusting.{adjusted_none, adjusted_some, flow_elsewhere}
+use Rattle.tda_scale.proofs.Adjusting.{gap_is, adjusted_none, adjusted_some, flow_elsewhere}
 use Rattle.tda_scale.proofs.adjust.adjust_arc.Goals.{in-Some, in_default}
 use Rattle.tda_scale.proofs.adjust.adjust_arc.Goals as goal
-
--- the gap, as the code passes it on
-gap_is : (g p q : ℤ) → IsWithin (2 ^ 93) g → g ≡ p -ℤ q → to_z w128 (of_z w128 g) ≡ p -ℤ q
-gap_is g p q h e = omega (arith, ints, h.low, h.high)
 
 pub returns-clause-kept : goal.returns-clause-kept
 returns-clause-kept c =

@@ -1,4 +1,4 @@
-use Rattle.std.proofs.Common.{◌≡◌, ℕ, ◌^◌, ◌∙◌, sym, ap, subst, length, pos, ◌-ℤ◌, arith}
+use Rattle.std.proofs.Common.{◌≡◌, ◌^◌, ◌∙◌, sym, ap, subst, length, pos, ◌-ℤ◌, arith}
 use Rattle.std.proofs.lemmas.Int.{ints}
 use Rattle.std.proofs.lemmas.List.{with_items_is}
 use Rattle.std.specs.Vec.{with_items}
@@ -7,9 +7,9 @@ use Rattle.tda_scale.specs.Priced.{IsPriced}
 use Rattle.tda_scale.specs.Searching.{price_of, AreFresh, IsFinished, IsBook}
 use Rattle.tda_scale.specs.Quotes.{AreQuotes}
 use Rattle.tda_scale.specs.Tracked.{IsTracked}
-use Rattle.tda_scale.specs.Phase.{square, HasRoom, IsReady, IsFloored, NoneGains}
+use Rattle.tda_scale.specs.Phase.{square, IsFloored, NoneGains}
 use Rattle.tda_scale.proofs.Quoted.{near_of_quotes}
-use Rattle.tda_scale.proofs.Carrying.{finished_self, small_of_floor}
+use Rattle.tda_scale.proofs.Carrying.{finished_self}
 use Rattle.tda_scale.proofs.Improving.{book_cleared, tracked_book, priced_book, floor_book, gains_book, gains_after, worth_ready, must_find}
 use Rattle.tda_scale.proofs.phase.improve.Goals as goal
 

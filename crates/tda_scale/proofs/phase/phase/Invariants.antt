@@ -1,4 +1,4 @@
-use Rattle.std.proofs.Common.{◌≡◌, ℕ, ◌+◌, ◌^◌, ◌<◌, false, get_or, pos, ◌≤ℤ◌}
+use Rattle.std.proofs.Common.{◌≡◌, ℕ, ◌<◌, false, get_or, pos, ◌≤ℤ◌}
 use Rattle.tda_scale.specs.Spots.{spot_at}
 use Rattle.tda_scale.specs.Phase.{HasRoom, IsReady, IsFloored, AreWithin}
 use Rattle.tda_scale.proofs.phase.phase.Given as goal

@@ -1,6 +1,6 @@
 use Rattle.std.proofs.Common.{ℕ, ◌<◌, ◌∙◌, arith, length, get_or, inl, refl}
 use Rattle.tda_scale.specs.Spots.{cleared_spot}
-use Rattle.tda_scale.proofs.Closing.{closing-more, left-more, left-start, left-none, closing-end, closure_cleared}
+use Rattle.tda_scale.proofs.Closing.{closing-more, left-more, left-start, closure_cleared}
 use Rattle.tda_scale.proofs.prices.shut_found.Goals as goal
 
 pub loop-node-init : goal.loop-node-init

@@ -1,8 +1,7 @@
-use Rattle.std.proofs.Common.{◌≡◌, ℕ, ◌+◌, ◌-◌, ◌*◌, ◌^◌, ◌<◌, ◌≤◌, ◌∙◌, sym, subst, arith}
-use Rattle.std.proofs.lemmas.Int.{ints}
+use Rattle.std.proofs.Common.{◌+◌, ◌-◌, ◌*◌, ◌^◌, ◌∙◌, sym, subst, arith}
 use Rattle.tda_scale.specs.Priced.{IsPriced}
 use Rattle.tda_scale.specs.Searching.{price_of}
-use Rattle.tda_scale.specs.Phase.{square, AreWithin}
+use Rattle.tda_scale.specs.Phase.{square}
 use Rattle.tda_scale.proofs.Solved.{power_double, power_small, power_one, circulates_at_end, wider}
 use Rattle.tda_scale.proofs.scale.run_phases.Goals as goal
 
