@@ -58,7 +58,7 @@ impl Model for Scale {
 impl Scale {
     /// A solver of nets of up to `nodes` nodes and `arcs` arcs, which are at most 65,536 and 2^20.
     ///
-    /// All its memory is taken here: some 90 bytes for each node and 120 for each arc. `NoMemory` comes
+    /// All its memory is taken here: some 100 bytes for each node and 120 for each arc. `NoMemory` comes
     /// only where that can't be had.
     pub fn new(alloc: Global, nodes: u32, arcs: usize) -> Result<Scale, NoMemory>
         requires nodes { nodes ≤ 65536 }
