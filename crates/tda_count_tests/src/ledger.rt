@@ -1,4 +1,7 @@
 // What ledgers hold, and the files that they are written to.
+ghost use Rattle.std.specs.Prelude.{◌≡◌};
+ghost use Rattle.tda_ledger.specs.Ledger.{ledger_of};
+
 use std::alloc::Global;
 use std::process::Abort;
 use std::test::Fail;
@@ -50,7 +53,9 @@ const LEDGERS: [(&str, &str); 2] = [
 const ROWS: [[u64; 4]; 3] = [[0, 0, 1, 4], [0, 1, 1, 12], [1, 0, 1, 6]];
 
 // Whether the ledger is written as this text, after what stood there.
-fn is_written(alloc: Global, schema: &Schema, ledger: &Ledger, text: &str) -> Result<bool, Fail> {
+fn is_written(alloc: Global, schema: &Schema, ledger: &Ledger, text: &str) -> Result<bool, Fail>
+    requires { ledger.now ≡ ledger_of schema.now }
+{
     let mut out = Vec::from_slice(alloc, b"old\n")?;
     write_ledger(schema, ledger, &mut out)?;
     Ok(out.as_slice().strip_prefix(b"old\n") == Some(text.as_bytes()))
