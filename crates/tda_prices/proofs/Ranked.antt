@@ -12,9 +12,10 @@ use Rattle.tda_model.specs.Cells.{cell_count}
 use Rattle.tda_model.proofs.Shares.{sum_range_more}
 use Rattle.tda_spine.specs.Sound.{IsSound}
 use Rattle.tda_prices.specs.Ranks.{ranked, AreRanks}
-use Rattle.tda_prices.proofs.Once.{IsDistinct, units_once, units_here, once_at_most}
+use Rattle.tda_model.proofs.FitOrder.{EachOnce}
+use Rattle.tda_out.proofs.Once.{units_once, units_here, once_at_most}
 use Rattle.tda_prices.proofs.Starts.{Stands, all_stand}
-use Rattle.tda_prices.proofs.TablesDetermined.{at_unit}
+use Rattle.tda_out.proofs.TablesDetermined.{at_unit}
 
 abbrev Each : (ℕ → Type 0) → List ℕ → Type 0
 Each P xs = AllByRecursion P xs
@@ -34,7 +35,7 @@ keeps : (ranks us : List ℕ) (first v : ℕ) → Each (λ u. v ≡ u → ⊥) u
 keeps ranks [] first v h = refl
 keeps ranks (u ∷ us) first v h = keeps (set ranks u first) us (first + 1) v h.1 ∙ get_or-set_other ranks u v first 0 h.0
 
-ranked_at : (ranks us : List ℕ) (first : ℕ) → IsDistinct us → Each (λ u. u < length ranks) us → (k : ℕ) → k < length us → get_or (ranked ranks us first) (get_or us k 0) 0 ≡ first + k
+ranked_at : (ranks us : List ℕ) (first : ℕ) → EachOnce us → Each (λ u. u < length ranks) us → (k : ℕ) → k < length us → get_or (ranked ranks us first) (get_or us k 0) 0 ≡ first + k
 ranked_at ranks [] first once here k below = absurd (omega arith)
 ranked_at ranks (u ∷ us) first once here zero below =
     keeps (set ranks u first) us (first + 1) u once.0 ∙ get_or-set_same ranks u first 0 here.0 ∙ omega arith

@@ -104,11 +104,11 @@ module _ {X : Type 0} (f : X → Row) (xs : List X) (k : ℕ) (d : X) (below : k
 
 -- ---- what the calls answer
 pub row_stops : (places : List Row) (old new : RowsRead) (fault : RowFault) (f : PriFault) → ReadsRow (Err fault) old new → f ≡ of_prices fault → Stops places old f
-row_stops places old new (row_fault.BadWidth n) f reads is other rest = bad_due old (places ++ rest) n reads ∙ ap Err (sym is)
+row_stops places old new (row_fault.BadWidth n) f reads is other rest = bad_due old (places ++ rest) n reads.bad ∙ ap Err (sym is)
 row_stops places old new row_fault.NoMemory f reads is other rest = absurd (other is)
 
 pub rest_stops : (places : List Row) (old new : RowsRead) (fault : RowFault) (f : PriFault) → TakesRow old new → ReadsRest (Err fault) new → f ≡ of_prices fault → Stops places old f
-rest_stops places old new (row_fault.BadWidth n) f takes reads is other rest = later_due old new takes (places ++ rest) n reads ∙ ap Err (sym is)
+rest_stops places old new (row_fault.BadWidth n) f takes reads is other rest = later_due old new takes (places ++ rest) n reads.0 ∙ ap Err (sym is)
 rest_stops places old new row_fault.NoMemory f takes reads is other rest = absurd (other is)
 
 module _ (place : Row) (old new : RowsRead) where

@@ -9,7 +9,8 @@ use Rattle.tda_spine.specs.Judged.{fits_of}
 use Rattle.tda_prices.specs.Items.{items_of, price_count}
 use Rattle.tda_prices.specs.Priced.{same_fit, prices_before}
 use Rattle.tda_prices.specs.PricesText.{fit_field, item_fields, fit_places, places_of}
-use Rattle.tda_prices.proofs.Once.{IsDistinct, distinct_at, parents_once}
+use Rattle.tda_model.proofs.FitOrder.{EachOnce, parents_once}
+use Rattle.tda_out.proofs.Once.{once_at}
 use Rattle.tda_prices.proofs.PricedBack.{AreApart, fits_apart, own_fit}
 
 abbrev Each : {X : Type 0} → (X → Type 0) → List X → Type 0
@@ -67,7 +68,7 @@ module _ (s : Schema) (sp : Spine) where
           ap (λ u. get_or (set starts (get_or units k 0) read) u 0) same ∙ get_or-set_same starts (get_or units k 0) read 0 here ∙ is
           ∙ ap (λ u. prices_before s sp (Some u) (fits_of sp)) (sym same)
       | inr ne ↦
-          let once : IsDistinct units = rw are (parents_once sp t) in
-          get_or-set_other starts (get_or units k 0) (get_or units i 0) read 0 (distinct_at units once i k (omega arith) below)
+          let once : EachOnce units = rw are (parents_once sp t) in
+          get_or-set_other starts (get_or units k 0) (get_or units i 0) read 0 (once_at units once i k (omega arith) below)
           ∙ h i (omega arith)
     ]

@@ -25,7 +25,7 @@ use Rattle.tda_prices.specs.TablesRead.{number_within, whole_within, count_in, s
 use Rattle.tda_prices.specs.declared.fault.TabFault.{TabFault}
 use Rattle.tda_prices.specs.declared.fault.TabFault.TheVariants.{BadRow, WrongPlace, BadNumber}
 use Rattle.tda_prices.proofs.Starts.{Stands, all_stand}
-use Rattle.tda_prices.proofs.TablesDetermined.{at_unit}
+use Rattle.tda_out.proofs.TablesDetermined.{at_unit}
 use Rattle.tda_prices.proofs.TablesFine.{last_append, unit_at}
 
 parts : (a b : Bool) → (a && b) ≡ true → (a ≡ true) × (b ≡ true)

@@ -2,10 +2,10 @@
 use Rattle.std.specs.Prelude.{◌≡◌, ◌≤◌, ◌^◌, ℕ, ℤ, List, length, Ok}
 use Rattle.tda_model.specs.Schema.{Schema}
 use Rattle.tda_model.specs.Spine.{Spine}
-use Rattle.tda_model.specs.Bounds.{persons_limit}
 use Rattle.tda_model.specs.Tables.{Tables}
 use Rattle.tda_model.specs.TablesText.{tables_text}
 use Rattle.tda_out.specs.Counts.{counts_of}
+use Rattle.tda_out.specs.Written.{AreFew}
 use Rattle.tda_prices.specs.PricesText as prices
 use Rattle.tda_prices.specs.PricesText.{ArePrices, prices_text}
 use Rattle.tda_prices.specs.TablesRead as tables
@@ -17,10 +17,6 @@ PricesAreReadBack s sp = (numbers : List ℤ) → ArePrices s sp numbers → pri
 -- each has at most 2^30 bytes
 abbrev pub PricesAreShort : Schema → Spine → Type 0
 PricesAreShort s sp = (numbers : List ℤ) → ArePrices s sp numbers → length (prices_text s sp numbers) ≤ 2 ^ 30
-
--- no count passes 2^30
-abbrev pub AreFew : Tables → Type 0
-AreFew x = (unit cell : ℕ) → x unit cell ≤ persons_limit
 
 -- each file of tables gives the counts back
 abbrev pub TablesAreReadBack : Schema → Spine → Type 0
