@@ -1,11 +1,11 @@
 -- In fit order below each unit with children each other unit stands once; and sums over numbers that stand once.
-use Rattle.std.proofs.Common.{◌≡◌, ◌≢◌, ℕ, zero, suc, ◌+◌, ◌<◌, ◌≤◌, ◌||◌, cond, eqb, Bool, true, false, List, [], ◌∷◌, ◌++◌, length, get_or, refl, sym, ap, ◌∙◌, inl, inr, arith, ne_eqb, eq-eqb}
+use Rattle.std.proofs.Common.{◌≡◌, ◌≢◌, ℕ, zero, suc, ◌+◌, ◌<◌, ◌≤◌, ◌||◌, cond, eqb, Bool, true, false, List, [], ◌∷◌, ◌++◌, length, get_or, refl, sym, ap, ◌∙◌, subst, inl, inr, arith, ne_eqb, eq-eqb}
 use Rattle.std.specs.List.{sum_by, range_with_len, flat_map}
 use Rattle.std.proofs.lemmas.Bool.{cases_eq}
 use Rattle.std.proofs.lemmas.List.Sums.{sum_by-cons}
 use Rattle.tda_model.specs.Spine.{Spine, level_of, is_child, children_of, nation_of, parents_of, IsUnit, HasParent, IsTree}
 use Rattle.tda_model.specs.TablesText.{units_in_order}
-use Rattle.tda_model.proofs.FitOrder.{EachOnce, each_append, each_joined}
+use Rattle.tda_model.proofs.FitOrder.{EachOnce, each_append, each_joined, joined_each}
 use Rattle.tda_model.proofs.FitOrder as order
 use Rattle.tda_model.proofs.Sums.{Each, Ascends, each_weaker, each_both, each_any, range_ascends, filter_ascends, sum_same, sum_add, sum_le, sum_one}
 use Rattle.tda_model.proofs.Tree.{parent_is, parent_or_self}
@@ -57,6 +57,17 @@ module _ (sp : Spine) (t : IsTree sp (nation_of sp)) where
 
   pub units_here : Each (IsUnit sp) (units_in_order sp)
   units_here = (t.root, each_joined (IsUnit sp) (children_of sp) (parents_of sp) (each_any (λ p. Each (IsUnit sp) (children_of sp p)) (parents_of sp) (λ p. order.each_child sp t (IsUnit sp) p (λ v here up. here))))
+
+  -- and each unit stands among them
+  pub each_unit : (P : ℕ → Type 0) → Each P (units_in_order sp) → (u : ℕ) → IsUnit sp u → P u
+  each_unit P h u here = elim (cases_eq (level_of sp u) 0) [
+    | inl top ↦ subst P (sym (t.root_alone u here top)) h.0
+    | inr below ↦
+        let p = t.parent u here (omega arith) in
+        let above : level_of sp u ≡ level_of sp p.0 + 1 = p.1.above in
+        let within : level_of sp u < sp.depth = t.within u here in
+        order.among_children sp P p.0 u here p.1 (order.each_inner sp t (λ p. Each P (children_of sp p)) (joined_each P (children_of sp) (parents_of sp) h.1) p.0 p.1.here (omega arith))
+  ]
 
 -- ---- a sum over numbers that stand once
 among : List ℕ → ℕ → Bool

@@ -9,6 +9,31 @@ use Rattle.tda_io.proofs.Appends.{kept_start}
 use Rattle.tda_prices.specs.Numbered.{number_row}
 use Rattle.tda_prices.specs.Parts.{numbered_text}
 
+-- a text that was only appended to
+pub record Grows (start now : List ℕ) : Type 0 where
+  pub more : List ℕ
+  pub is : now ≡ start ++ more
+
+pub grows_none : (start : List ℕ) → Grows start start
+grows_none start = record { more = []; is = sym (append-nil start) }
+
+pub grows_on : (start now new more : List ℕ) → Grows start now → new ≡ now ++ more → Grows start new
+grows_on start now new more g is = record { more = g.more ++ more; is = is ∙ ap (λ t. t ++ more) g.is ∙ append_assoc start g.more more }
+
+pub grows_field : (start now new field end : List ℕ) → Grows start now → new ≡ now ++ field ++ end → Grows start new
+grows_field start now new field end g is = grows_on start (now ++ field) new end (grows_on start now (now ++ field) field g refl) is
+
+pub grown_start : (start now : List ℕ) → Grows start now → take (length start) now ≡ start
+grown_start start now g = ap (take (length start)) g.is ∙ take-append_seam start g.more
+
+-- fields, one after the other
+pub five_fields : (o0 o1 o2 o3 o4 o5 a b c d e : List ℕ) → o1 ≡ o0 ++ a ++ 44 ∷ [] → o2 ≡ o1 ++ b ++ 44 ∷ [] → o3 ≡ o2 ++ c ++ 44 ∷ [] → o4 ≡ o3 ++ d ++ 44 ∷ [] → o5 ≡ o4 ++ e ++ 10 ∷ []
+    → o5 ≡ o0 ++ row_text (a ∷ b ∷ c ∷ d ∷ e ∷ [])
+five_fields o0 o1 o2 o3 o4 o5 a b c d e e1 e2 e3 e4 e5 = rw (e5, e4, e3, e2, e1) (simp append_assoc)
+
+pub two_numbers : (o3 o4 o5 o6 o7 d z : List ℕ) → o4 ≡ o3 ++ d → o5 ≡ o4 ++ 44 ∷ [] → o6 ≡ o5 ++ z → o7 ≡ o6 ++ 10 ∷ [] → (o7 ≡ (o3 ++ d ++ 44 ∷ []) ++ z ++ 10 ∷ [])
+two_numbers o3 o4 o5 o6 o7 d z e4 e5 e6 e7 = rw (e7, e6, e5, e4) (simp append_assoc)
+
 -- what was there, and these rows with these numbers, are what is there now, and the rows that are left with the numbers that are left
 pub record Writes (places : List Row) (numbers : List ℤ) (left : List Row) (others : List ℤ) (start now : List ℕ) : Type 0 where
   pub whole : start ++ numbered_text places numbers ≡ now ++ numbered_text left others
