@@ -1,6 +1,6 @@
 -- What reading rows for their places gives, and how it goes on.
 use Rattle.std.proofs.Common.{◌≡◌, ◌≢◌, ℕ, suc, ◌+◌, ◌<◌, ◌≤◌, Bool, true, false, not, cond, List, [], ◌∷◌, ◌++◌, length, get_or, map, drop, take, Option, Some, None, Result, Ok, Err, ℤ, pos, nat_abs, All, is_none, refl, sym, ap, ◌∙◌, subst, arith, length-append}
-use Rattle.std.specs.Prelude.{option_map, unwrap_or}
+use Rattle.std.specs.Prelude.{option_map, unwrap_or, IfErr}
 use Rattle.std.proofs.lemmas.List.{append_assoc, append-nil, drop_more, drop_all}
 use Rattle.std.proofs.lemmas.List.Elements.{All-append, All-cons}
 use Rattle.tda_io.specs.Csv.{Row}
@@ -70,7 +70,7 @@ pub reads_none : (places : List Row) (r : RowsRead) (before : List ℤ) → 0 < 
 reads_none places r before some = record {
   prices = [];
   appended = sym (append-nil before);
-  size = refl;
+  size = omega arith;
   near = λ k d below. absurd (omega (arith, below));
   gives = λ rest. sym (following_none (due (places ++ rest) r));
   width = refl;
@@ -168,3 +168,7 @@ module _ (places left part rest : List Row) (old mid : RowsRead) (before between
 
   pub stop_part : (f : PriFault) → Stops part mid f → Stops places old f
   stop_part f stops = stops_on places part rest old mid before between part_here f stops
+
+pub err_weaker : {P Q : PriFault → Type 0} (r : Result (Unit {0}) PriFault) → ((f : PriFault) → P f → Q f) → IfErr r P → IfErr r Q
+err_weaker (Ok x) f h = tt
+err_weaker (Err e) f h = f e h

@@ -33,7 +33,7 @@ parts true b e = (refl, e)
 parts false b e = absurd cc
 
 -- a number that is within is so within another limit that it keeps
-within_too : (most other j : ℕ) (text : List ℕ) → number_within 0 most text ≡ Some j → j ≤ other → number_within 0 other text ≡ Some j
+pub within_too : (most other j : ℕ) (text : List ℕ) → number_within 0 most text ≡ Some j → j ≤ other → number_within 0 other text ≡ Some j
 within_too most other j text e le = by (int_of text) e
   where
     whole : (z : ℤ) → whole_within 0 most z ≡ Some j → whole_within 0 other z ≡ Some j

@@ -45,3 +45,9 @@ loop-child-preserved c =
     let f = group_rows s sp (Some c.args.parent) in
     read_part (child_rows s sp c.args.parent) _ (f (get_or xs k 0)) (flat_map f (drop (k + 1) xs)) c.args.rows.now c.loop-child.rows c.args.prices.now.items c.loop-child.prices.items
     (ap (flat_map f) (drop_more xs k 0 (omega (arith, c.loop-child-test.true)))) c.loop-child.invariant c.read_groups.new.rows c.read_groups.new.prices.items c.in_ok-read_groups.ensures.ok
+
+pub loop-child-init : goal.loop-child-init
+loop-child-init c =
+    let f = group_rows c.args.schema.now c.args.spine.now (Some c.args.parent) in
+    subst (λ us. Reads (child_rows c.args.schema.now c.args.spine.now c.args.parent) (flat_map f us) c.args.rows.now c.args.rows.now c.args.prices.now.items c.args.prices.now.items) (sym c.children-child-items.ensures)
+    (reads_none (child_rows c.args.schema.now c.args.spine.now c.args.parent) c.args.rows.now c.args.prices.now.items c.requires.some)
