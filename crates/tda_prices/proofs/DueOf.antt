@@ -1,19 +1,20 @@
 -- What a file of prices is due to give, as what its rows are due for their places.
-use Rattle.std.proofs.Common.{◌≡◌, ℕ, zero, suc, ◌+◌, ◌-◌, ◌<◌, ◌≤◌, Bool, true, false, not, cond, List, [], ◌∷◌, ◌++◌, length, get_or, map, take, Option, Some, None, Result, Ok, Err, ℤ, pos, is_none, nat_lt, nat_le, refl, sym, ap, ◌∙◌, arith, length-append, append_assoc, append-nil}
+use Rattle.std.proofs.Common.{◌≡◌, ◌≢◌, ℕ, zero, suc, ◌+◌, ◌-◌, ◌<◌, ◌≤◌, Bool, true, false, not, cond, List, [], ◌∷◌, ◌++◌, length, get_or, map, take, Option, Some, None, Result, Ok, Err, ℤ, pos, is_none, nat_lt, nat_le, refl, sym, ap, ◌∙◌, arith, length-append, append_assoc, append-nil}
 use Rattle.std.specs.Prelude.{option_map, unwrap_or, slice_get}
 use Rattle.std.proofs.lemmas.Bool.{le-ltb, lt-ltb, le-leb, lt-leb}
 use Rattle.std.proofs.lemmas.List.{get_or-append_right, length_push}
 use Rattle.std.proofs.lemmas.Option.{slice_get-get_or, slice_get_past}
 use Rattle.tda_io.specs.Csv.{Row, first_fault, or_else, same_row}
 use Rattle.tda_io.specs.Due.{◌>>◌, none_of}
-use Rattle.tda_io.specs.RowReading.{RowsRead, bad_rest, rest_due}
+use Rattle.tda_io.specs.RowReading.{RowsRead, TakesRow, EndsRows, bad_rest, rest_due}
 use Rattle.tda_model.specs.Schema.{Schema}
 use Rattle.tda_model.specs.Spine.{Spine}
-use Rattle.tda_prices.specs.Left.{price_in_row, names_place, placed_fault, past_fault, following, left_due, due}
-use Rattle.tda_prices.specs.Numbered.{row_fault, has_wrong_place, format}
-use Rattle.tda_prices.specs.PricesText.{price_limit, header, faults, places_of}
+use Rattle.tda_prices.specs.Left.{price_in_row, names_place, placed_fault, past_fault, following, left_due, due, Reads, Stops}
+use Rattle.tda_prices.specs.Numbered.{row_fault, has_wrong_place}
+use Rattle.tda_prices.specs.PricesText.{format, price_limit, header, faults, places_of}
 use Rattle.tda_prices.specs.declared.fault.PriFault.{PriFault}
-use Rattle.tda_prices.specs.declared.fault.PriFault.TheVariants.{BadRow, WrongPlace, BadNumber, Missing, TooMany}
+use Rattle.tda_prices.specs.declared.fault.PriFault.TheVariants.{BadRow, WrongPlace, BadNumber, Missing, TooMany, NoMemory}
+use Rattle.tda_prices.proofs.Reading.{ended_due, past_due}
 
 price : Row → ℤ
 price row = unwrap_or (price_in_row row) (pos 0)
@@ -87,7 +88,24 @@ module _ (all : List Row) where
       by None next = ahead (price row) (map price rows) (first_fault judge (earlier ++ row ∷ []) rows) (cond (nat_lt (n + 1 + length rows) (length all)) (Some Missing) None) ∙ ap (following (price row ∷ [])) next
 
 -- after the header
-pub rest_is : (s : Schema) (sp : Spine) (r : RowsRead) → r.number ≡ 1 → rest_due (format faults header (places_of s sp) 4 price_limit) r ≡ due (places_of s sp) r
+pub rest_is : (s : Schema) (sp : Spine) (r : RowsRead) → r.number ≡ 1 → rest_due (format s sp) r ≡ due (places_of s sp) r
 rest_is s sp r first =
     let one : 0 + 1 ≡ r.number = omega arith in
     ap (λ t. none_of (option_map BadRow (bad_rest r)) >> t) (left_is (places_of s sp) 0 [] (places_of s sp) [] r.rest refl refl refl ∙ ap (λ n. left_due n (places_of s sp) r.rest) one)
+
+-- ---- where all rows that have a place were read
+module _ (s : Schema) (sp : Spine) (old mid : RowsRead) (first : old.number ≡ 1) (numbers : List ℤ) (reads : Reads (places_of s sp) [] old mid [] numbers) where
+  at_end : rest_due (format s sp) old ≡ following reads.prices (due [] mid)
+  at_end = rest_is s sp old first ∙ ap (λ ps. due ps old) (sym (append-nil (places_of s sp))) ∙ reads.gives []
+
+  pub end_stops : (f : PriFault) → Stops [] mid f → f ≢ NoMemory → rest_due (format s sp) old ≡ Err f
+  end_stops f stops other = at_end ∙ ap (following reads.prices) (stops other [])
+
+  pub end_fault : (new : RowsRead) → TakesRow mid new → bad_rest new ≡ None → rest_due (format s sp) old ≡ Err (past_fault new.number new.row)
+  end_fault new takes even = at_end ∙ ap (following reads.prices) (past_due mid new takes even)
+
+  pub ended : (new : RowsRead) → EndsRows mid new → rest_due (format s sp) old ≡ Ok numbers
+  ended new ends = at_end ∙ ap (following reads.prices) (ended_due mid new ends) ∙ ap Ok (append-nil reads.prices ∙ sym reads.appended)
+
+pub all_stops : (s : Schema) (sp : Spine) (old : RowsRead) → old.number ≡ 1 → (f : PriFault) → Stops (places_of s sp) old f → f ≢ NoMemory → rest_due (format s sp) old ≡ Err f
+all_stops s sp old first f stops other = rest_is s sp old first ∙ ap (λ ps. due ps old) (sym (append-nil (places_of s sp))) ∙ stops other []

@@ -1,12 +1,13 @@
 -- Where the splits begin, as they are noted while the fits are read.
-use Rattle.std.proofs.Common.{◌≡◌, ◌≢◌, ℕ, zero, suc, ◌+◌, ◌-◌, ◌<◌, ◌≤◌, cond, false, List, [], ◌∷◌, ◌++◌, length, get_or, set, drop, take, map, Option, Some, None, refl, sym, ap, ◌∙◌, inl, inr, arith, length-append}
+use Rattle.std.proofs.Common.{◌≡◌, ◌≢◌, ℕ, zero, suc, ◌+◌, ◌-◌, ◌<◌, ◌≤◌, cond, false, List, [], ◌∷◌, ◌++◌, length, get_or, set, drop, take, map, All, Option, Some, None, refl, sym, ap, ◌∙◌, subst, inl, inr, arith, length-append}
 use Rattle.std.specs.List.{AllByRecursion, flat_map}
 use Rattle.std.proofs.lemmas.Bool.{cases_eq}
-use Rattle.std.proofs.lemmas.List.{get_or-map, get_or-set_same, get_or-set_other, length-map}
+use Rattle.std.proofs.lemmas.List.{get_or-map, get_or_default, get_or-set_same, get_or-set_other, length-map}
 use Rattle.tda_model.specs.Schema.{Schema}
 use Rattle.tda_model.specs.Spine.{Spine, nation_of, parents_of, IsTree}
 use Rattle.tda_spine.specs.Judged.{fits_of}
 use Rattle.tda_prices.specs.Items.{items_of, price_count}
+use Rattle.tda_prices.specs.Kept.{BeginsThere}
 use Rattle.tda_prices.specs.Priced.{same_fit, prices_before}
 use Rattle.tda_prices.specs.PricesText.{fit_field, item_fields, fit_places, places_of}
 use Rattle.tda_model.proofs.FitOrder.{EachOnce, parents_once}
@@ -57,7 +58,10 @@ module _ (s : Schema) (sp : Spine) where
         let sum = sum_is (fits_of sp) (fits_apart s sp t) (suc k) low in
         let fit : get_or (fits_of sp) (suc k) None ≡ Some (get_or units k 0) = get_or-map Some (parents_of sp) k 0 None here ∙ ap (λ ps. Some (get_or ps k 0)) (sym are) in
         let left : drop (suc k) (fits_of sp) ≡ map Some (drop k units) = drop_map k (parents_of sp) ∙ ap (λ ps. map Some (drop k ps)) (sym are) in
-        let both : prices_before s sp (Some (get_or units k 0)) (fits_of sp) + length (flat_map (fit_places s sp) (map Some (drop k units))) ≡ length (places_of s sp) = rw (fit, left) at sum in
+        let first : prices_before s sp (Some (get_or units k 0)) (fits_of sp) + length (flat_map (fit_places s sp) (drop (suc k) (fits_of sp))) ≡ length (places_of s sp) =
+        subst (λ f. prices_before s sp f (fits_of sp) + length (flat_map (fit_places s sp) (drop (suc k) (fits_of sp))) ≡ length (places_of s sp)) fit sum in
+        let both : prices_before s sp (Some (get_or units k 0)) (fits_of sp) + length (flat_map (fit_places s sp) (map Some (drop k units))) ≡ length (places_of s sp) =
+        subst (λ ds. prices_before s sp (Some (get_or units k 0)) (fits_of sp) + length (flat_map (fit_places s sp) ds) ≡ length (places_of s sp)) left first in
         omega (arith, both, size)
 
     pub one_more : (starts : List ℕ) (k read : ℕ) → k < length units → get_or units k 0 < length starts → BeginTo s sp starts units k
@@ -72,3 +76,7 @@ module _ (s : Schema) (sp : Spine) where
           get_or-set_other starts (get_or units k 0) (get_or units i 0) read 0 (once_at units once i k (omega arith) below)
           ∙ h i (omega arith)
     ]
+
+    pub all_begin : (starts : List ℕ) (k : ℕ) → length units ≤ k → BeginTo s sp starts units k → All (BeginsThere s sp starts) (parents_of sp)
+    all_begin starts k past h =
+        subst (All (BeginsThere s sp starts)) are (λ i d below. subst (BeginsThere s sp starts) (get_or_default units i 0 d below) (h i (omega arith)))

@@ -1,6 +1,7 @@
 -- The counts of the rows of a file of tables that were read so far.
 use Rattle.std.proofs.Common.{◌≡◌, ◌≢◌, ℕ, zero, suc, ◌+◌, ◌*◌, ◌-◌, ◌<◌, ◌≤◌, ◌&&◌, ◌==◌, ◌^◌, cond, Bool, true, false, List, [], ◌∷◌, ◌++◌, length, get_or, map, Option, Some, None, Result, Ok, Err, pos, negsuc, ℤ, nat_le, nat_lt, refl, sym, ap, ◌∙◌, subst, inl, inr, arith, eq-eqb, ne_eqb}
-use Rattle.std.specs.Prelude.{find, option_or, position, unwrap_or, is_none}
+use Rattle.std.specs.Option.{option_or}
+use Rattle.std.specs.Prelude.{find, position, unwrap_or, is_none}
 use Rattle.std.specs.Str.{bytes_eq}
 use Rattle.std.proofs.lemmas.Bool.{cases_eq, cases_lt, eqb-true, false_from_ne_true, le-leb, leb-false, lt-ltb}
 use Rattle.std.proofs.lemmas.List.{get_or-append_right, get_or_append_left, length_push}
@@ -69,7 +70,7 @@ abbrev pub AreBefore : Schema → Spine → Option ℕ → List Row → Type 0
 AreBefore s sp last rows = (k : ℕ) (d : Row) → k < length rows → (spot later : ℕ) → spot_in s sp (get_or rows k d) ≡ Some spot → comes_late last (Some later) ≡ false → spot < later
 
 module _ (s : Schema) (sp : Spine) (sound : IsSound sp) (few : cell_count s < 2 ^ 64) where
-  stands : (u : ℕ) → IsUnit sp u → Stands u (units_in_order sp)
+  pub stands : (u : ℕ) → IsUnit sp u → Stands u (units_in_order sp)
   stands u here = each_unit sp sound.tree (λ u. Stands u (units_in_order sp)) (all_stand (units_in_order sp)) u here
 
   -- where a row that names a unit and a cell stands

@@ -1,13 +1,20 @@
 -- Rows that are written one after the other, and what is left to be written.
-use Rattle.std.proofs.Common.{◌≡◌, ℕ, ◌+◌, ◌<◌, ◌≤◌, List, [], ◌∷◌, ◌++◌, length, get_or, drop, take, ℤ, refl, sym, ap, ◌∙◌, subst, arith, append_assoc, append-nil}
+use Rattle.std.proofs.Common.{◌≡◌, ℕ, ◌+◌, ◌<◌, ◌≤◌, List, [], ◌∷◌, ◌++◌, length, get_or, drop, take, ℤ, pos, nat_abs, of_z, to_z, All, Option, None, Some, refl, sym, ap, ◌∙◌, subst, arith, append_assoc, append-nil}
 use Rattle.std.specs.List.{flat_map, zip}
+use Rattle.std.specs.Int.{w128}
+use Rattle.std.proofs.lemmas.Int.{fits_signed_from_abs, to_z-of_z}
 use Rattle.std.proofs.Math.Seq.{take-append_seam}
 use Rattle.std.proofs.lemmas.List.{take-append-drop}
 use Rattle.tda_io.specs.Csv.{Row}
-use Rattle.tda_io.specs.Texts.{row_text}
+use Rattle.std.specs.Prelude.{IfSome}
+use Rattle.tda_io.specs.Texts.{row_text, IsPlain}
+use Rattle.tda_io.proofs.PlainNames.{plain_name}
+use Rattle.tda_model.specs.Spine.{Spine, code_of, IsUnit}
+use Rattle.tda_spine.specs.Sound.{IsSound}
 use Rattle.tda_io.proofs.Appends.{kept_start}
 use Rattle.tda_prices.specs.Numbered.{number_row}
 use Rattle.tda_prices.specs.Parts.{numbered_text}
+use Rattle.tda_prices.specs.PricesText.{fit_field, price_limit}
 
 pub text_append : (ks js : List Row) (vs ws : List ℤ) → length ks ≡ length vs → numbered_text (ks ++ js) (vs ++ ws) ≡ numbered_text ks vs ++ numbered_text js ws
 text_append [] js [] ws e = refl
@@ -67,8 +74,8 @@ module _ (places : List Row) (numbers : List ℤ) (start now : List ℕ) where
   }
 
   -- none is left
-  pub all_written : (others : List ℤ) → Writes places numbers [] others start now → now ≡ start ++ numbered_text places numbers
-  all_written others w = sym (w.whole ∙ append-nil now)
+  pub all_written : (left : List Row) (others : List ℤ) → left ≡ [] → Writes places numbers left others start now → now ≡ start ++ numbered_text places numbers
+  all_written left others none w = sym (w.whole ∙ ap (λ l. now ++ numbered_text l others) none ∙ append-nil now)
 
 -- one row of those that are left
 module _ (places : List Row) (numbers : List ℤ) (start now : List ℕ) (left rest : List Row) (others after : List ℤ) (row fields : Row) (z y : ℤ)
@@ -88,3 +95,11 @@ module _ (places : List Row) (numbers : List ℤ) (start now : List ℕ) (left p
         ∙ sym (append_assoc now (numbered_text part own) (numbered_text rest after)) ∙ ap (λ t. t ++ numbered_text rest after) (sym is);
     begins = ap (take (length start)) is ∙ begins_more start now (numbered_text part own) w.begins;
   }
+
+-- a price is kept by 128 bits
+pub kept : (numbers : List ℤ) → All (λ z. nat_abs z ≤ price_limit) numbers → (k : ℕ) → k < length numbers → to_z w128 (of_z w128 (get_or numbers k (pos 0))) ≡ get_or numbers k (pos 0)
+kept numbers near k below = let within = near k (pos 0) below in to_z-of_z w128 (get_or numbers k (pos 0)) (fits_signed_from_abs w128 (get_or numbers k (pos 0)) (omega (arith, within)))
+
+pub plain_fit : (sp : Spine) → IsSound sp → (fit : Option ℕ) → IfSome fit (IsUnit sp) → IsPlain (fit_field sp fit)
+plain_fit sp sound None is = record { filled = omega arith; plain = refl }
+plain_fit sp sound (Some p) is = plain_name 16 (code_of sp p) (sound.coded p is)

@@ -1,14 +1,15 @@
 // Reads prices.
 ghost use Rattle.std.specs.Prelude.{◌≡◌, ◌<◌, ◌≤◌, ◌^◌, [], ◌∷◌, length, All, IfErr, IfOk, IfSome, OnOk, None, Some};
 ghost use Rattle.tda_io.specs.Due.{Gives};
+ghost use Rattle.tda_io.specs.RowReading.{rest_due};
 ghost use Rattle.tda_model.specs.Groups.{LevelIsNested};
 ghost use Rattle.tda_model.specs.Spine.{IsUnit, children_of, parents_of};
 ghost use Rattle.tda_spine.specs.Sound.{IsInner};
 ghost use Rattle.tda_prices.specs.Kept.{ArePricesOf};
-ghost use Rattle.tda_prices.specs.Left.{due, Reads, Stops};
+ghost use Rattle.tda_prices.specs.Left.{Reads, Stops};
 ghost use Rattle.tda_prices.specs.Parts.{state_rows, kind_rows, cell_rows, child_rows, group_rows};
 ghost use Rattle.tda_prices.specs.Places.{fields_of};
-ghost use Rattle.tda_prices.specs.PricesText.{fit_places, places_of, read};
+ghost use Rattle.tda_prices.specs.PricesText.{format, fit_places, places_of, read};
 
 use crate::count::count_possible;
 use crate::judge::{judge, past_fault};
@@ -276,7 +277,7 @@ fn prices_of(
     requires belong { spine.now.depth ≡ length schema.now.levels }
     requires number { rows.old.number ≡ 1 }
     requires width { rows.old.width ≡ 5 }
-    ensures given { Gives PriFault.NoMemory (λ p. p.numbers) result (due (places_of schema.now spine.now) rows.old) }
+    ensures given { Gives PriFault.NoMemory (λ p. p.numbers) result (rest_due (format schema.now spine.now) rows.old) }
     ensures prices { IfOk result (ArePricesOf schema.now spine.now) }
 {
     let prices = read_fits(alloc, schema, spine, size, rows)?;

@@ -1,5 +1,5 @@
 // Writes prices.
-ghost use Rattle.std.specs.Prelude.{◌≡◌, ◌+◌, ◌*◌, ◌++◌, length, take, IfSome, None, OnErr, OnOk, Some};
+ghost use Rattle.std.specs.Prelude.{◌≡◌, ◌+◌, ◌*◌, ◌++◌, ◌≤◌, length, nat_abs, take, All, IfSome, None, OnErr, OnOk, Some};
 ghost use Rattle.std.specs.Fmt.{decimal};
 ghost use Rattle.tda_io.specs.Texts.{row_text, IsPlain};
 ghost use Rattle.tda_model.specs.Cells.{possible_cells};
@@ -11,7 +11,7 @@ ghost use Rattle.tda_prices.specs.Items as items;
 ghost use Rattle.tda_prices.specs.Numbered.{number_row};
 ghost use Rattle.tda_prices.specs.Parts.{cell_rows, child_rows, group_rows, kind_rows, numbered_text, state_rows};
 ghost use Rattle.tda_prices.specs.Places.{fields_of};
-ghost use Rattle.tda_prices.specs.PricesText.{header, fit_text, MakeUpFile};
+ghost use Rattle.tda_prices.specs.PricesText.{header, fit_text, price_limit, MakeUpFile};
 
 use crate::place::{NOTHING, Place, fit_name};
 use tda_io::{NoMemory, push_field, push_int};
@@ -71,7 +71,8 @@ fn push_price(place: Place, price: i128, out: &mut Vec<u8>) -> Result<(), NoMemo
 
 // Appends the rows of the states.
 fn push_states(spine: &Spine, prices: &[i128], out: &mut Vec<u8>) -> Result<(), NoMemory>
-    requires { length prices.now ≡ length (units_at spine.now 1) }
+    requires count { length prices.now ≡ length (units_at spine.now 1) }
+    requires near { All (λ z. nat_abs z ≤ price_limit) prices.now }
     ensures ok { OnOk result (out.new.items ≡ out.old.items ++ numbered_text (state_rows spine.now) prices.now) }
     ensures err { OnErr result (take (length out.old.items) out.new.items ≡ out.old.items) }
 {
@@ -96,7 +97,8 @@ fn push_kinds(
     prices: &[i128],
     out: &mut Vec<u8>,
 ) -> Result<(), NoMemory>
-    requires { length prices.now ≡ kind_count schema.now }
+    requires count { length prices.now ≡ kind_count schema.now }
+    requires near { All (λ z. nat_abs z ≤ price_limit) prices.now }
     ensures ok { OnOk result (out.new.items ≡ out.old.items ++ numbered_text (kind_rows schema.now spine.now) prices.now) }
     ensures err { OnErr result (take (length out.old.items) out.new.items ≡ out.old.items) }
 {
@@ -121,7 +123,8 @@ fn push_cells(
     out: &mut Vec<u8>,
 ) -> Result<(), NoMemory>
     requires parent { IsUnit spine.now parent }
-    requires prices { length prices.now ≡ length (possible_cells schema.now) }
+    requires count { length prices.now ≡ length (possible_cells schema.now) }
+    requires near { All (λ z. nat_abs z ≤ price_limit) prices.now }
     ensures ok { OnOk result (out.new.items ≡ out.old.items ++ numbered_text (cell_rows schema.now spine.now parent) prices.now) }
     ensures err { OnErr result (take (length out.old.items) out.new.items ≡ out.old.items) }
 {
@@ -153,7 +156,8 @@ fn push_groups(
     requires belong { spine.now.depth ≡ length schema.now.levels }
     requires fit { IfSome fit (IsUnit spine.now) }
     requires unit { IsUnit spine.now unit }
-    requires prices { length prices.now ≡ groups_at schema.now (level_of spine.now unit) }
+    requires count { length prices.now ≡ groups_at schema.now (level_of spine.now unit) }
+    requires near { All (λ z. nat_abs z ≤ price_limit) prices.now }
     ensures ok { OnOk result (out.new.items ≡ out.old.items ++ numbered_text (group_rows schema.now spine.now fit unit) prices.now) }
     ensures err { OnErr result (take (length out.old.items) out.new.items ≡ out.old.items) }
 {
@@ -179,10 +183,13 @@ fn push_root(
     out: &mut Vec<u8>,
 ) -> Result<(), NoMemory>
     requires belong { spine.now.depth ≡ length schema.now.levels }
-    requires prices { length prices.now ≡ items.price_count schema.now spine.now None }
+    requires count { length prices.now ≡ items.price_count schema.now spine.now None }
+    requires near { All (λ z. nat_abs z ≤ price_limit) prices.now }
     ensures ok { OnOk result (out.new.items ≡ out.old.items ++ fit_text schema.now spine.now None prices.now) }
     ensures err { OnErr result (take (length out.old.items) out.new.items ≡ out.old.items) }
 {
+    // A spine has a first level.
+    let _ = spine.units();
     let (of_states, others) = prices.split_at(spine.at_level(1).len());
     let (of_kinds, of_groups) = others.split_at(schema.kinds() as usize);
     push_states(spine, of_states, out)?;
@@ -202,10 +209,13 @@ fn push_children(
     requires belong { spine.now.depth ≡ length schema.now.levels }
     requires parent { IsInner spine.now parent }
     requires groups { groups ≡ groups_at schema.now (level_of spine.now parent + 1) }
-    requires prices { length prices.now ≡ length (children_of spine.now parent) * groups }
+    requires count { length prices.now ≡ length (children_of spine.now parent) * groups }
+    requires near { All (λ z. nat_abs z ≤ price_limit) prices.now }
     ensures ok { OnOk result (out.new.items ≡ out.old.items ++ numbered_text (child_rows schema.now spine.now parent) prices.now) }
     ensures err { OnErr result (take (length out.old.items) out.new.items ≡ out.old.items) }
 {
+    // Children are units.
+    let _ = spine.units();
     for (index, child) in spine.children(parent).iter().enumerate() {
         let start = index * groups;
         let of_child = &prices[start..start + groups];
@@ -224,10 +234,13 @@ fn push_split(
 ) -> Result<(), NoMemory>
     requires belong { spine.now.depth ≡ length schema.now.levels }
     requires parent { IsInner spine.now parent }
-    requires prices { length prices.now ≡ items.price_count schema.now spine.now (Some parent) }
+    requires count { length prices.now ≡ items.price_count schema.now spine.now (Some parent) }
+    requires near { All (λ z. nat_abs z ≤ price_limit) prices.now }
     ensures ok { OnOk result (out.new.items ≡ out.old.items ++ fit_text schema.now spine.now (Some parent) prices.now) }
     ensures err { OnErr result (take (length out.old.items) out.new.items ≡ out.old.items) }
 {
+    // The spine is a tree.
+    let _ = spine.units();
     let groups = schema.groups(spine.level(parent) + 1) as usize;
     let cells = prices.len() - spine.children(parent).len() * groups;
     let (of_cells, of_groups) = prices.split_at(cells);
@@ -236,7 +249,7 @@ fn push_split(
 }
 
 /// Appends the rows of a fit with its prices, in the order that `read_prices` tells: None is the fit of the nation, Some
-/// that of a unit's children. A row has at most 76 bytes where each price is within 2^96 of 0.
+/// that of a unit's children. Each price is within 2^96 of 0, and a row has at most 76 bytes.
 ///
 /// The header, then the rows of each fit in fit order are the file of prices. After `NoMemory` nothing was appended.
 pub fn write_prices(
@@ -249,6 +262,7 @@ pub fn write_prices(
     requires belong { spine.now.depth ≡ length schema.now.levels }
     requires fit { IfSome fit (IsInner spine.now) }
     requires count { length prices.now ≡ items.price_count schema.now spine.now fit }
+    requires near { All (λ z. nat_abs z ≤ price_limit) prices.now }
     ensures ok { OnOk result (out.new.items ≡ out.old.items ++ fit_text schema.now spine.now fit prices.now) }
     ensures err { OnErr result (out.new.items ≡ out.old.items) }
     ensures whole { MakeUpFile schema.now spine.now }

@@ -29,7 +29,7 @@ returns-in_err-read_kinds-clause-err c =
     let split = root_rows s sp in
     let step0 = read_part whole (whole) (state_rows sp) (kind_rows s sp ++ (group_rows s sp None (nation_of sp))) c.args.rows.now c.args.rows.now c.args.prices.now.items c.args.prices.now.items split (reads_none whole c.args.rows.now c.args.prices.now.items c.requires.some) c.read_states.new.rows c.read_states.new.prices.items c.in_ok-read_states.ensures.ok in
     let why = c.in_err-read_kinds.field-0.0 in
-    let p = err_from_is_err_and c.from_residual.result c.from_residual.ensures.1 in
+    let p = err_from_is_err_and c.from_residual-in_err-read_kinds.result c.from_residual-in_err-read_kinds.ensures.1 in
     rw (p.1, p.2)
     (stop_part whole (kind_rows s sp ++ (group_rows s sp None (nation_of sp))) (kind_rows s sp) (group_rows s sp None (nation_of sp)) c.args.rows.now c.read_states.new.rows c.args.prices.now.items c.read_states.new.prices.items refl step0 why c.in_err-read_kinds.ensures.err)
 

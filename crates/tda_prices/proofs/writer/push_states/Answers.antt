@@ -16,7 +16,7 @@ use Rattle.tda_prices.specs.Parts.{rows_of, state_rows, kind_rows, cell_rows, gr
 use Rattle.tda_prices.specs.PricesText.{fit_field}
 use Rattle.tda_prices.proofs.Counts.{children_units, level_units}
 use Rattle.tda_prices.proofs.PartRows.{filter_on, filter_past, next_row, none_left}
-use Rattle.tda_prices.proofs.Writing.{all_written, begins_on, write_next, write_part}
+use Rattle.tda_prices.proofs.Writing.{all_written, begins_on, kept, write_next, write_part}
 use Rattle.tda_prices.proofs.writer.push_states.Goals as goal
 
 pub code-requires : goal.code-requires
@@ -37,8 +37,8 @@ loop-index-preserved c =
     let xs = units_at sp 1 in
     let k = c.loop-index.index in
     let below : k < length xs = omega (arith, c.loop-index-test.true, ap length c.at_level-state-items.ensures) in
-    let low : k < length c.args.prices.now = omega (arith, below, c.requires) in
+    let low : k < length c.args.prices.now = omega (arith, below, c.requires.count) in
     write_next (state_rows sp) c.args.prices.now c.args.out.now.items c.loop-index.out.items _ _ _ _ _ _ _ _
     (next_row sp None OfState xs k below)
     (ap (λ x. codes "-" ∷ codes "state" ∷ x ∷ decimal 0 ∷ []) (c.code.ensures.code ∙ ap (λ us. code_of sp (get_or us k 0)) c.at_level-state-items.ensures))
-    (drop_more c.args.prices.now k (pos 0) low) refl c.loop-index.invariant c.push_price.new.out.items c.in_ok-push_price.ensures.ok
+    (drop_more c.args.prices.now k (pos 0) low) (kept c.args.prices.now c.requires.near k low) c.loop-index.invariant c.push_price.new.out.items c.in_ok-push_price.ensures.ok
