@@ -26,6 +26,9 @@ fn tables_of(
     ensures given { Gives TabFault.NoMemory (λ t. t) result (rest_due (format schema.now spine.now) rows.old) }
     ensures counts { IfOk result (AreCountsOf schema.now spine.now) }
 {
+    // Units have codes of their own, and there are at most 4,096 cells.
+    let _ = spine.units();
+    let _ = schema.cells();
     let ranks = ranks(alloc, spine)?;
     let mut tables = Tables::new(alloc, schema, spine)?;
     let mut last = None;

@@ -1,6 +1,6 @@
 use Rattle.std.proofs.Common.{◌≡◌, ◌<◌, ◌≤◌, ◌+◌, ◌++◌, ◌∙◌, [], All, None, Some, ap, refl, sym, subst, arith, length, get_or, drop, map, set, nat_abs}
 use Rattle.std.specs.List.{flat_map}
-use Rattle.std.proofs.lemmas.List.{drop_more, length-set, length-replicate}
+use Rattle.std.proofs.lemmas.List.{drop_more, length-set}
 use Rattle.std.proofs.lemmas.Result.{err_from_is_err_and}
 use Rattle.tda_spine.proofs.Fits.{inner_at}
 use Rattle.tda_prices.specs.Kept.{ArePricesOf}
@@ -25,7 +25,7 @@ loop-parent-init c =
     record {
       reads = read_part whole whole (f None) rest c.args.rows.now c.args.rows.now [] [] split (reads_none whole c.args.rows.now [] c.requires.some) c.read_root.new.rows c.read_root.new.prices.items
           (subst (λ b. Reads (f None) [] c.args.rows.now c.read_root.new.rows b c.read_root.new.prices.items) c.in_ok-numbers.ensures.items c.in_ok-read_root.ensures.ok);
-      units = ap length c.in_ok-starts.ensures.items ∙ length-replicate c.units.result 0 ∙ c.units.ensures.count;
+      units = omega (arith, c.in_ok-starts.ensures.len, c.units.ensures.count, c.in_ok-starts.starts.ok.0);
       begin = λ i less. absurd (omega (arith, less));
     }
 
