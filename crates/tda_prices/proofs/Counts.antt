@@ -31,6 +31,11 @@ level_units sp level = All-from_recursion (IsUnit sp) (units_at sp level) (each_
 pub children_units : (sp : Spine) → IsTree sp (nation_of sp) → (p : ℕ) → All (IsUnit sp) (children_of sp p)
 children_units sp t p = All-from_recursion (IsUnit sp) (children_of sp p) (each_weaker (λ c. IsUnit sp c × (level_of sp c ≡ level_of sp p + 1)) (IsUnit sp) (children_of sp p) (λ c h. h.0) (child_level sp t p))
 
+pub children_levels : (sp : Spine) → IsTree sp (nation_of sp) → (p : ℕ) → All (λ u. level_of sp u ≡ level_of sp p + 1) (children_of sp p)
+children_levels sp t p =
+    All-from_recursion (λ u. level_of sp u ≡ level_of sp p + 1) (children_of sp p)
+    (each_weaker (λ c. IsUnit sp c × (level_of sp c ≡ level_of sp p + 1)) (λ u. level_of sp u ≡ level_of sp p + 1) (children_of sp p) (λ c h. h.1) (child_level sp t p))
+
 module _ (s : Schema) (sp : Spine) where
   unit_long : (u : ℕ) → length (unit_items s sp u) ≡ groups_at s (level_of sp u)
   unit_long u = length-map-range_with_len (OfGroup u) 0 (groups_at s (level_of sp u))

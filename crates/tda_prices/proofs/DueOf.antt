@@ -16,7 +16,7 @@ use Rattle.tda_prices.specs.declared.fault.PriFault.{PriFault}
 use Rattle.tda_prices.specs.declared.fault.PriFault.TheVariants.{BadRow, WrongPlace, BadNumber, Missing, TooMany, NoMemory}
 use Rattle.tda_prices.proofs.Reading.{ended_due, past_due}
 
-price : Row → ℤ
+abbrev price : Row → ℤ
 price row = unwrap_or (price_in_row row) (pos 0)
 
 ahead : (z : ℤ) (zs : List ℤ) (x y : Option PriFault) → (none_of x >> none_of y >> Ok (z ∷ zs)) ≡ following (z ∷ []) (none_of x >> none_of y >> Ok zs)
@@ -90,8 +90,12 @@ module _ (all : List Row) where
 -- after the header
 pub rest_is : (s : Schema) (sp : Spine) (r : RowsRead) → r.number ≡ 1 → rest_due (format s sp) r ≡ due (places_of s sp) r
 rest_is s sp r first =
+    let all = places_of s sp in
+    let none_before : length r.rest ≡ 0 + length r.rest = omega arith in
     let one : 0 + 1 ≡ r.number = omega arith in
-    ap (λ t. none_of (option_map BadRow (bad_rest r)) >> t) (left_is (places_of s sp) 0 [] (places_of s sp) [] r.rest refl refl refl ∙ ap (λ n. left_due n (places_of s sp) r.rest) one)
+    ap (λ t. none_of (option_map BadRow (bad_rest r)) >> t)
+    (ap (λ m. none_of (first_fault (judge all) [] r.rest) >> none_of (cond (nat_lt m (length all)) (Some Missing) None) >> Ok (map price r.rest)) none_before
+    ∙ left_is all 0 [] all [] r.rest refl refl refl ∙ ap (λ n. left_due n all r.rest) one)
 
 -- ---- where all rows that have a place were read
 module _ (s : Schema) (sp : Spine) (old mid : RowsRead) (first : old.number ≡ 1) (numbers : List ℤ) (reads : Reads (places_of s sp) [] old mid [] numbers) where

@@ -2,7 +2,8 @@
 use Rattle.std.proofs.Common.{◌≡◌, ℕ, ◌+◌, ◌<◌, ◌≤◌, cond, Bool, true, false, List, [], ◌∷◌, ◌++◌, length, get_or, map, filter, drop, Option, Some, None, refl, sym, ap, ◌∙◌, append_assoc}
 use Rattle.std.specs.List.{flat_map, range_with_len}
 use Rattle.std.proofs.Math.ListN.{drop_of_length-le}
-use Rattle.std.proofs.lemmas.List.{drop_more, map-append}
+use Rattle.std.proofs.lemmas.List.{drop_more, length-map, map-append}
+use Rattle.std.proofs.lemmas.List.FromFn.{length-map-range_with_len}
 use Rattle.tda_io.specs.Csv.{Row}
 use Rattle.tda_model.specs.Schema.{Schema}
 use Rattle.tda_model.specs.Cells.{possible_cells}
@@ -58,3 +59,16 @@ module _ (s : Schema) (sp : Spine) where
           map-append (λ i. fit_field sp (Some p) ∷ item_fields sp i) (unit_items s sp c) (flat_map (unit_items s sp) cs)
           ∙ ap (λ rows. rows ++ map (λ i. fit_field sp (Some p) ∷ item_fields sp i) (flat_map (unit_items s sp) cs)) (mapped (Some p) (OfGroup c) (range_with_len 0 (groups_at s (level_of sp c))))
           ∙ ap (λ rows. group_rows s sp (Some p) c ++ rows) (by cs)
+
+  -- how many rows the parts have
+  pub rows_long : (fit : Option ℕ) (u : ℕ) → length (group_rows s sp fit u) ≡ groups_at s (level_of sp u)
+  rows_long fit u = length-map-range_with_len (λ g. fit_field sp fit ∷ item_fields sp (OfGroup u g)) 0 (groups_at s (level_of sp u))
+
+  pub kinds_long : length (kind_rows s sp) ≡ kind_count s
+  kinds_long = length-map-range_with_len (λ k. fit_field sp None ∷ item_fields sp (OfKind k)) 0 (kind_count s)
+
+  pub cells_long : (p : ℕ) → length (cell_rows s sp p) ≡ length (possible_cells s)
+  cells_long p = length-map (possible_cells s) (λ j. fit_field sp (Some p) ∷ item_fields sp (OfCell j))
+
+pub states_long : (sp : Spine) → length (state_rows sp) ≡ length (units_at sp 1)
+states_long sp = length-map (units_at sp 1) (λ st. fit_field sp None ∷ item_fields sp (OfState st))

@@ -1,9 +1,9 @@
 -- Rows that are written one after the other, and what is left to be written.
-use Rattle.std.proofs.Common.{◌≡◌, ℕ, ◌+◌, ◌<◌, ◌≤◌, List, [], ◌∷◌, ◌++◌, length, get_or, drop, take, ℤ, pos, nat_abs, of_z, to_z, All, Option, None, Some, refl, sym, ap, ◌∙◌, subst, arith, append_assoc, append-nil}
-use Rattle.std.specs.List.{flat_map, zip}
+use Rattle.std.proofs.Common.{◌≡◌, ℕ, zero, suc, suc-mul, ◌+◌, ◌-◌, ◌*◌, ◌<◌, ◌≤◌, List, [], ◌∷◌, ◌++◌, length, get_or, drop, take, ℤ, pos, nat_abs, of_z, to_z, All, Option, None, Some, refl, sym, ap, ◌∙◌, subst, arith, append_assoc, append-nil}
+use Rattle.std.specs.List.{between, flat_map, zip}
 use Rattle.std.specs.Int.{w128}
 use Rattle.std.proofs.lemmas.Int.{fits_signed_from_abs, to_z-of_z}
-use Rattle.std.proofs.Math.Seq.{take-append_seam}
+use Rattle.std.proofs.Math.Seq.{drop-nil, take-append_seam}
 use Rattle.std.proofs.lemmas.List.{take-append-drop}
 use Rattle.tda_io.specs.Csv.{Row}
 use Rattle.std.specs.Prelude.{IfSome}
@@ -103,3 +103,25 @@ kept numbers near k below = let within = near k (pos 0) below in to_z-of_z w128 
 pub plain_fit : (sp : Spine) → IsSound sp → (fit : Option ℕ) → IfSome fit (IsUnit sp) → IsPlain (fit_field sp fit)
 plain_fit sp sound None is = record { filled = omega arith; plain = refl }
 plain_fit sp sound (Some p) is = plain_name 16 (code_of sp p) (sound.coded p is)
+
+drop_twice : (a b : ℕ) (xs : List ℤ) → drop a (drop b xs) ≡ drop (b + a) xs
+drop_twice a zero xs = let e : a ≡ 0 + a = omega arith in ap (λ n. drop n xs) e
+drop_twice a (suc b) [] = drop-nil a ∙ sym (drop-nil (suc b + a))
+drop_twice a (suc b) (x ∷ xs) = drop_twice a b xs ∙ (let e : suc (b + a) ≡ suc b + a = omega arith in ap (λ n. drop n (x ∷ xs)) e)
+
+-- the k-th part of so many numbers, and those after it
+pub next_part : (numbers : List ℤ) (k g : ℕ) → drop (k * g) numbers ≡ between (k * g) (k * g + g) numbers ++ drop ((k + 1) * g) numbers
+next_part numbers k g =
+    let n : k * g + g - k * g ≡ g = omega arith in
+    let m : k * g + g ≡ (k + 1) * g = (let e : k + 1 ≡ suc k = omega arith in omega (arith, suc-mul k g, ap (λ a. a * g) e)) in
+    sym (take-append-drop g (drop (k * g) numbers))
+    ∙ ap (λ a. take a (drop (k * g) numbers) ++ drop g (drop (k * g) numbers)) (sym n)
+    ∙ ap (λ ys. between (k * g) (k * g + g) numbers ++ ys) (drop_twice g (k * g) numbers ∙ ap (λ a. drop a numbers) m)
+
+-- two parts, one after the other
+pub two_parts : (rows others : List Row) (numbers : List ℤ) (mid : ℕ) (front back : List ℤ) → front ≡ take mid numbers → back ≡ drop mid numbers → length rows ≡ length front
+    → (o0 o1 o2 : List ℕ) → o1 ≡ o0 ++ numbered_text rows front → o2 ≡ o1 ++ numbered_text others back → o2 ≡ o0 ++ numbered_text (rows ++ others) numbers
+two_parts rows others numbers mid front back front_is back_is long o0 o1 o2 first second =
+    second ∙ ap (λ t. t ++ numbered_text others back) first ∙ append_assoc o0 (numbered_text rows front) (numbered_text others back)
+    ∙ ap (λ t. o0 ++ t) (sym (text_append rows others front back long))
+    ∙ ap (λ zs. o0 ++ numbered_text (rows ++ others) zs) (ap (λ zs. zs ++ back) front_is ∙ ap (λ zs. take mid numbers ++ zs) back_is ∙ take-append-drop mid numbers)
