@@ -4,7 +4,8 @@ ghost use Rattle.tda_io.specs.Due.{Gives};
 ghost use Rattle.tda_io.specs.RowReading.{rest_due};
 ghost use Rattle.tda_model.specs.Groups.{LevelIsNested};
 ghost use Rattle.tda_model.specs.Spine.{IsUnit, children_of, parents_of};
-ghost use Rattle.tda_spine.specs.Sound.{IsInner};
+ghost use Rattle.tda_spine.specs.Judged.{IsWithinLimits};
+ghost use Rattle.tda_prices.specs.FilesBack.{PricesAreReadBack, PricesAreShort};
 ghost use Rattle.tda_prices.specs.Kept.{ArePricesOf};
 ghost use Rattle.tda_prices.specs.Left.{Reads, Stops};
 ghost use Rattle.tda_prices.specs.Parts.{state_rows, kind_rows, cell_rows, child_rows, group_rows};
@@ -238,12 +239,12 @@ fn count_all(schema: &Schema, spine: &Spine) -> u64
     count
 }
 
-// The prices of all fits, of a text of so many bytes.
+// The prices of all fits, with room for so many.
 fn read_fits(
     alloc: Global,
     schema: &Schema,
     spine: &Spine,
-    size: usize,
+    room: usize,
     rows: &mut RowReader,
 ) -> Result<Prices, PriFault>
     requires belong { spine.now.depth ≡ length schema.now.levels }
@@ -253,10 +254,7 @@ fn read_fits(
     ensures err { IfErr result (Stops (places_of schema.now spine.now) rows.old) }
     ensures prices { IfOk result (ArePricesOf schema.now spine.now) }
 {
-    // A row without a fault has at least 12 bytes: five fields, one of them of four, each with what ends it. The last
-    // one may lack its end.
-    let room = count_all(schema, spine).min(size as u64 / 12);
-    let mut numbers = Vec::with_capacity(alloc, room as usize)?;
+    let mut numbers = Vec::with_capacity(alloc, room)?;
     let mut starts = vec![in alloc; 0; spine.units() as usize]?;
     read_root(schema, spine, rows, &mut numbers)?;
     for parent in spine.parents() {
@@ -266,12 +264,12 @@ fn read_fits(
     Ok(Prices::new(numbers, starts))
 }
 
-// The prices of the rows after the header, of a text of so many bytes.
+// The prices of the rows after the header, with room for so many.
 fn prices_of(
     alloc: Global,
     schema: &Schema,
     spine: &Spine,
-    size: usize,
+    room: usize,
     rows: &mut RowReader,
 ) -> Result<Prices, PriFault>
     requires belong { spine.now.depth ≡ length schema.now.levels }
@@ -280,7 +278,7 @@ fn prices_of(
     ensures given { Gives PriFault.NoMemory (λ p. p.numbers) result (rest_due (format schema.now spine.now) rows.old) }
     ensures prices { IfOk result (ArePricesOf schema.now spine.now) }
 {
-    let prices = read_fits(alloc, schema, spine, size, rows)?;
+    let prices = read_fits(alloc, schema, spine, room, rows)?;
     if rows.next_row()? {
         let fault = past_fault(rows);
         // A later row of another width comes first.
@@ -290,12 +288,36 @@ fn prices_of(
     Ok(prices)
 }
 
+// The prices of a text, with room for so many.
+fn prices_in(
+    alloc: Global,
+    schema: &Schema,
+    spine: &Spine,
+    room: usize,
+    bytes: &[u8],
+) -> Result<Prices, PriFault>
+    requires belong { spine.now.depth ≡ length schema.now.levels }
+    requires limit { length bytes.now ≤ 2 ^ 30 }
+    ensures given { Gives PriFault.NoMemory (λ p. p.numbers) result (read schema.now spine.now bytes.now) }
+    ensures prices { IfOk result (ArePricesOf schema.now spine.now) }
+{
+    let mut rows = RowReader::new(alloc, bytes);
+    if !rows.next_row()? || !rows.has_fields(&["fit", "part", "unit", "item", "price"]) {
+        rows.finish()?;
+        return Err(PriFault::BadHeader(1));
+    }
+    prices_of(alloc, schema, spine, room, &mut rows)
+}
+
 /// The prices of a text of at most 2^30 bytes, with the header `fit,part,unit,item,price` and a row for each price, the
 /// fits in fit order. Of the nation's fit, written `-`, there is a row for each state (`state`, its code, 0), then for each
 /// kind (`kind`, `-`, its number), then for each group of the nation (`group`, its code, the group's number). Of the fit of
 /// a unit's children, written as the unit's code, there is a row for each possible cell (`cell`, `-`, its number), then for
 /// each child one for each of its groups. The price is a canonical decimal within 2^96 of 0. One pass is made over the
 /// text, and nothing of it is kept but the prices, sixteen bytes for each, and eight for each unit.
+///
+/// What `write_prices_header` and `write_prices` write is accepted, and gives the prices back; it is at most 2^30 bytes
+/// long where the spine was read with the schema.
 ///
 /// Rows are numbered from 1, the header being row 1. The first of these is answered. `BadRow` names the first row whose
 /// width isn't that of row 1. `BadHeader(1)`: row 1 is another header, or there is no row. The first row that has a fault
@@ -312,11 +334,15 @@ pub fn read_prices(
     requires limit { length bytes.now ≤ 2 ^ 30 }
     ensures given { Gives PriFault.NoMemory (λ p. p.numbers) result (read schema.now spine.now bytes.now) }
     ensures prices { IfOk result (ArePricesOf schema.now spine.now) }
+    ensures read_back { PricesAreReadBack schema.now spine.now }
+    ensures short { IsWithinLimits schema.now spine.now → PricesAreShort schema.now spine.now }
 {
-    let mut rows = RowReader::new(alloc, bytes);
-    if !rows.next_row()? || !rows.has_fields(&["fit", "part", "unit", "item", "price"]) {
-        rows.finish()?;
-        return Err(PriFault::BadHeader(1));
-    }
-    prices_of(alloc, schema, spine, bytes.len(), &mut rows)
+    // Units have codes, and there are at most 128 kinds and 4,096 cells.
+    let _ = spine.units();
+    let _ = schema.kinds();
+    let _ = schema.cells();
+    // A row without a fault has at least 12 bytes: five fields, one of them of four, each with what ends it. The last one
+    // may lack its end.
+    let room = count_all(schema, spine).min(bytes.len() as u64 / 12);
+    prices_in(alloc, schema, spine, room as usize, bytes)
 }
