@@ -1,5 +1,5 @@
 -- A level has at most one group more than twice its possible cells.
-use Rattle.std.proofs.Common.{◌≡◌, ℕ, ◌+◌, ◌<◌, ◌≤◌, ◌⊎◌, suc, zero, cond, Bool, true, false, not, List, [], ◌∷◌, ◌++◌, length, get_or, map, filter, All, Contains, ¬◌, Option, Some, None, refl, sym, ap, ◌∙◌, subst, inl, inr, arith}
+use Rattle.std.proofs.Common.{◌≡◌, ℕ, ◌+◌, ◌<◌, ◌≤◌, ◌⊎◌, suc, zero, cond, Bool, true, false, not, List, [], ◌∷◌, ◌++◌, length, get_or, map, filter, All, Contains, Option, Some, None, refl, sym, ap, ◌∙◌, subst, inl, inr, arith}
 use Rattle.std.specs.Prelude.{slice_get}
 use Rattle.std.specs.Str.{bytes_eq}
 use Rattle.std.specs.List.{AllByRecursion, flat_map, range_with_len}

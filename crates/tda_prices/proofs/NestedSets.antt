@@ -37,7 +37,7 @@ module _ {X : Type 0} where
     passed x (z ∷ xs) h = passed_by z x xs (p z) refl (passed x xs) h
 
     kept_by : (z : X) (xs : List X) (b : Bool) → length (cond b (z ∷ filter p xs) (filter p xs)) + length (cond (not b) (z ∷ filter (λ x. not (p x)) xs) (filter (λ x. not (p x)) xs)) ≡ suc (length (filter p xs) + length (filter (λ x. not (p x)) xs))
-    kept_by z xs true = refl
+    kept_by z xs true = omega arith
     kept_by z xs false = omega arith
 
     -- those that pass and those that don't are all
@@ -102,8 +102,8 @@ same_part [] xs ys apart h k there back = h ∙ sym k
 same_part (c ∷ cs) xs ys apart (inl h) (inl k) there back =
     h.1 ∙ ap (λ r. c ∷ r) (same_part cs h.0 k.0 apart.1 h.2 k.2 (less h.0 k.0 h.2 (λ x i. subst (In x) k.1 (there x (subst (In x) (sym h.1) i)))) (less k.0 h.0 k.2 (λ x i. subst (In x) h.1 (back x (subst (In x) (sym k.1) i))))) ∙ sym k.1
   where
-    less : (as bs : List ℕ) → IsPart cs as → IsWithin (c ∷ as) (c ∷ bs) → IsWithin as bs
-    less as bs part within x i = elim (within x (inr i)) [ inl e ↦ absurd (apart.0 (subst (λ y. In y cs) e (part_in cs as x part i))) | inr j ↦ j ]
+    less : (firsts seconds : List ℕ) → IsPart cs firsts → IsWithin (c ∷ firsts) (c ∷ seconds) → IsWithin firsts seconds
+    less firsts seconds part within x i = elim (within x (inr i)) [ inl e ↦ absurd (apart.0 (subst (λ y. In y cs) e (part_in cs firsts x part i))) | inr j ↦ j ]
 same_part (c ∷ cs) xs ys apart (inl h) (inr k) there back = absurd (apart.0 (part_in cs ys c k (there c (subst (In c) (sym h.1) (inl refl)))))
 same_part (c ∷ cs) xs ys apart (inr h) (inl k) there back = absurd (apart.0 (part_in cs xs c h (back c (subst (In c) (sym k.1) (inl refl)))))
 same_part (c ∷ cs) xs ys apart (inr h) (inr k) there back = same_part cs xs ys apart.1 h k there back
@@ -116,21 +116,21 @@ holds t (y ∷ ys) = cond (bytes_eq t y) true (holds t ys)
 holds_in : (t : List ℕ) (ys : List (List ℕ)) → holds t ys ≡ true → In t ys
 unfolding holds
 holds_in t [] e = absurd cc
-holds_in t (y ∷ ys) e = by (bytes_eq t y) refl e
+holds_in t (y ∷ ys) e = by (bytes_eq t y) refl e (holds_in t ys)
   where
-    by : (b : Bool) → bytes_eq t y ≡ b → cond b true (holds t ys) ≡ true → In t (y ∷ ys)
-    by true same e = inl ((bytes_eq-Decides t y).0 same)
-    by false other e = inr (holds_in t ys e)
+    by : (b : Bool) → bytes_eq t y ≡ b → cond b true (holds t ys) ≡ true → (holds t ys ≡ true → In t ys) → In t (y ∷ ys)
+    by true same e rest = inl ((bytes_eq-Decides t y).0 same)
+    by false other e rest = inr (rest e)
 
 in_holds : (t : List ℕ) (ys : List (List ℕ)) → In t ys → holds t ys ≡ true
 unfolding holds
 in_holds t [] h = absurd h
 in_holds t (y ∷ ys) (inl e) = ap (λ b. cond b true (holds t ys)) ((bytes_eq-Decides t y).1 e)
-in_holds t (y ∷ ys) (inr h) = by (bytes_eq t y)
+in_holds t (y ∷ ys) (inr h) = by (bytes_eq t y) (in_holds t ys h)
   where
-    by : (b : Bool) → cond b true (holds t ys) ≡ true
-    by true = refl
-    by false = in_holds t ys h
+    by : (b : Bool) → holds t ys ≡ true → cond b true (holds t ys) ≡ true
+    by true rest = refl
+    by false rest = rest
 
 is_none : List ℕ → Bool
 is_none [] = true
