@@ -1,5 +1,5 @@
 -- How many prices a fit has.
-use Rattle.std.proofs.Common.{◌≡◌, ℕ, ◌+◌, ◌*◌, ◌<◌, true, List, [], ◌∷◌, ◌++◌, length, map, All, Option, Some, None, sym, ap, ◌∙◌, arith, length-append}
+use Rattle.std.proofs.Common.{◌≡◌, ℕ, ◌+◌, ◌*◌, true, List, [], ◌∷◌, ◌++◌, length, map, All, Some, None, ap, ◌∙◌, arith, length-append}
 use Rattle.std.specs.List.{AllByRecursion, flat_map, range_with_len}
 use Rattle.std.proofs.lemmas.List.{length-map}
 use Rattle.std.proofs.lemmas.List.Elements.{All-from_recursion}
@@ -11,7 +11,7 @@ use Rattle.tda_model.specs.Sizes.{groups_at}
 use Rattle.tda_model.specs.Spine.{Spine, level_of, nation_of, units_at, is_at, is_child, children_of, unit_numbers, IsUnit, IsTree}
 use Rattle.tda_model.proofs.Sums.{each_filter, each_range, each_weaker}
 use Rattle.tda_model.proofs.Tree.{child_tells}
-use Rattle.tda_prices.specs.Items.{Item, OfState, OfKind, OfCell, OfGroup, unit_items, items_of, price_count}
+use Rattle.tda_prices.specs.Items.{Item, OfState, OfKind, OfCell, OfGroup, unit_items, price_count}
 use Rattle.tda_prices.proofs.Listed.{flat_length}
 
 abbrev Each : (ℕ → Type 0) → List ℕ → Type 0
@@ -23,7 +23,6 @@ child_level sp t p =
     each_filter (λ c. IsUnit sp c × (level_of sp c ≡ level_of sp p + 1)) (is_child sp p) (unit_numbers sp)
     (each_range (λ c. is_child sp p c ≡ true → IsUnit sp c × (level_of sp c ≡ level_of sp p + 1)) 0 (length sp.units) (λ c a b is.
     let here : IsUnit sp c = omega arith in (here, (child_tells sp (nation_of sp) t p c here is).above)))
-
 
 pub level_units : (sp : Spine) (level : ℕ) → All (IsUnit sp) (units_at sp level)
 level_units sp level = All-from_recursion (IsUnit sp) (units_at sp level) (each_filter (IsUnit sp) (is_at sp level) (unit_numbers sp) (each_range (λ u. is_at sp level u ≡ true → IsUnit sp u) 0 (length sp.units) (λ u a b is. omega arith)))

@@ -1,5 +1,5 @@
 -- What a file of prices is due to give, as what its rows are due for their places.
-use Rattle.std.proofs.Common.{◌≡◌, ◌≢◌, ℕ, zero, suc, ◌+◌, ◌-◌, ◌<◌, ◌≤◌, Bool, true, false, not, cond, List, [], ◌∷◌, ◌++◌, length, get_or, map, take, Option, Some, None, Result, Ok, Err, ℤ, pos, is_none, nat_lt, nat_le, refl, sym, ap, ◌∙◌, arith, length-append, append_assoc, append-nil}
+use Rattle.std.proofs.Common.{◌≡◌, ◌≢◌, ℕ, ◌+◌, ◌-◌, ◌<◌, ◌≤◌, Bool, true, false, not, cond, List, [], ◌∷◌, ◌++◌, length, get_or, map, take, Option, Some, None, Result, Ok, Err, ℤ, pos, is_none, nat_lt, nat_le, refl, sym, ap, ◌∙◌, arith, length-append, append_assoc, append-nil}
 use Rattle.std.specs.Prelude.{option_map, unwrap_or, slice_get}
 use Rattle.std.proofs.lemmas.Bool.{le-ltb, lt-ltb, le-leb, lt-leb}
 use Rattle.std.proofs.lemmas.List.{get_or-append_right, length_push}
@@ -10,8 +10,8 @@ use Rattle.tda_io.specs.RowReading.{RowsRead, TakesRow, EndsRows, bad_rest, rest
 use Rattle.tda_model.specs.Schema.{Schema}
 use Rattle.tda_model.specs.Spine.{Spine}
 use Rattle.tda_prices.specs.Left.{price_in_row, names_place, placed_fault, past_fault, following, left_due, due, Reads, Stops}
-use Rattle.tda_prices.specs.Numbered.{row_fault, has_wrong_place}
-use Rattle.tda_prices.specs.PricesText.{format, price_limit, header, faults, places_of}
+use Rattle.tda_prices.specs.Numbered.{row_fault}
+use Rattle.tda_prices.specs.PricesText.{format, price_limit, faults, places_of}
 use Rattle.tda_prices.specs.declared.fault.PriFault.{PriFault}
 use Rattle.tda_prices.specs.declared.fault.PriFault.TheVariants.{BadRow, WrongPlace, BadNumber, Missing, TooMany, NoMemory}
 use Rattle.tda_prices.proofs.Reading.{ended_due, past_due}

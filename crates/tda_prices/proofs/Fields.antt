@@ -1,6 +1,6 @@
 -- The fields of a row that name a place, and the number of a row.
-use Rattle.std.proofs.Common.{◌≡◌, ◌≢◌, ℕ, suc, ◌+◌, ◌<◌, ◌≤◌, ◌^◌, Bool, true, false, ◌&&◌, not, List, [], ◌∷◌, length, get_or, take, Option, Some, None, ℤ, pos, refl, sym, ap, ◌∙◌, inl, inr, arith}
-use Rattle.std.specs.Fmt.{decimal, signed_decimal}
+use Rattle.std.proofs.Common.{◌≡◌, ◌≢◌, ℕ, ◌<◌, ◌^◌, Bool, true, false, ◌&&◌, List, [], ◌∷◌, length, get_or, take, Option, Some, None, ℤ, pos, refl, sym, ap, ◌∙◌, inl, inr, arith}
+use Rattle.std.specs.Fmt.{decimal}
 use Rattle.std.specs.Str.{bytes_eq}
 use Rattle.std.specs.Cmp.Lexicographic.{bytes_decides}
 use Rattle.std.proofs.lemmas.Bool.{cases_Bool, lt-ltb}
@@ -9,7 +9,7 @@ use Rattle.std.specs.Ordering.{int_eq}
 use Rattle.std.proofs.lemmas.Bool.Decides.{Decides-int_eq}
 use Rattle.std.proofs.lemmas.Option.{same_Some}
 use Rattle.tda_io.specs.Csv.{Row, same_row}
-use Rattle.tda_io.specs.Texts.{fits_i128, int_of}
+use Rattle.tda_io.specs.Texts.{int_of}
 use Rattle.tda_io.proofs.Numbers.{int_of-decimal, int_of-is}
 
 -- ---- decimals

@@ -1,9 +1,8 @@
 -- What is written is read back, and no file is longer than its reader takes.
-use Rattle.std.proofs.Common.{◌≡◌, ℕ, ◌+◌, ◌<◌, ◌≤◌, ◌^◌, List, All, length, arith}
+use Rattle.std.proofs.Common.{◌≤◌, All, length, arith}
 use Rattle.tda_model.specs.Schema.{Schema}
 use Rattle.tda_model.specs.Cells.{cell_count, is_possible, possible_cells}
 use Rattle.tda_model.specs.Groups.{kind_count, LevelIsNested}
-use Rattle.tda_model.specs.Sizes.{groups_at}
 use Rattle.tda_model.specs.Spine.{Spine, level_of}
 use Rattle.tda_spine.specs.Judged.{IsWithinLimits}
 use Rattle.tda_spine.specs.Sound.{IsSound}

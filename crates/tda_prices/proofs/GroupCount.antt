@@ -1,16 +1,15 @@
 -- A level has at most one group more than twice its possible cells.
-use Rattle.std.proofs.Common.{◌≡◌, ℕ, ◌+◌, ◌<◌, ◌≤◌, ◌⊎◌, suc, zero, cond, Bool, true, false, not, List, [], ◌∷◌, ◌++◌, length, get_or, map, filter, All, Contains, Option, Some, None, refl, sym, ap, ◌∙◌, subst, inl, inr, arith}
-use Rattle.std.specs.Prelude.{slice_get}
+use Rattle.std.proofs.Common.{◌≡◌, ℕ, ◌+◌, ◌<◌, ◌≤◌, suc, zero, cond, Bool, true, false, not, List, [], ◌∷◌, length, get_or, map, filter, All, Contains, Some, None, refl, sym, ap, ◌∙◌, subst, inl, inr, arith}
 use Rattle.std.specs.Str.{bytes_eq}
 use Rattle.std.specs.List.{AllByRecursion, flat_map, range_with_len}
 use Rattle.std.proofs.lemmas.Slice.Eq.{bytes_eq-Decides}
 use Rattle.std.proofs.lemmas.Option.{slice_get_cases}
-use Rattle.tda_model.specs.Schema.{Schema, Level, Query}
-use Rattle.tda_model.specs.Cells.{is_possible, all_cells, cell_count, possible_cells, is_listed}
+use Rattle.tda_model.specs.Schema.{Schema, Level}
+use Rattle.tda_model.specs.Cells.{is_possible, cell_count, possible_cells, is_listed}
 use Rattle.tda_model.specs.Groups.{group_sets, each_once, group_count, scope_cells, class_cells, classes_of, kind_cells, kind_count, one_class, AreNested, LevelIsNested}
 use Rattle.tda_model.specs.Sizes.{groups_at}
 use Rattle.tda_model.proofs.Sums.{Ascends, range_ascends, filter_ascends}
-use Rattle.tda_prices.proofs.NestedSets.{apart_filter, In, IsPart, IsWithin, DoNotCross, AreApart, AreNestedSets, few_sets, filter_part, in_either, passed}
+use Rattle.tda_prices.proofs.NestedSets.{apart_filter, In, IsPart, DoNotCross, AreApart, few_sets, filter_part, in_either, passed}
 
 part_itself : (cells : List ℕ) → IsPart cells cells
 part_itself [] = refl

@@ -1,5 +1,5 @@
 -- What a row says of its place.
-use Rattle.std.proofs.Common.{◌≡◌, ℕ, Bool, true, false, not, cond, List, Option, Some, None, ℤ, is_none, refl, ap, ◌∙◌}
+use Rattle.std.proofs.Common.{◌≡◌, ℕ, Bool, true, false, not, cond, Option, Some, None, ℤ, is_none, refl, ap, ◌∙◌}
 use Rattle.tda_io.specs.Csv.{Row}
 use Rattle.tda_prices.specs.Left.{price_in_row, names_place, placed_fault, past_fault}
 use Rattle.tda_prices.specs.declared.fault.PriFault.{PriFault}

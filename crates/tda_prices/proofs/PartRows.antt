@@ -1,5 +1,5 @@
 -- The rows of a fit are those of its parts, and what is left of a part.
-use Rattle.std.proofs.Common.{◌≡◌, ℕ, ◌+◌, ◌<◌, ◌≤◌, cond, Bool, true, false, List, [], ◌∷◌, ◌++◌, length, get_or, map, filter, drop, Option, Some, None, refl, sym, ap, ◌∙◌, append_assoc}
+use Rattle.std.proofs.Common.{◌≡◌, ℕ, ◌+◌, ◌<◌, ◌≤◌, cond, Bool, true, false, List, [], ◌∷◌, ◌++◌, length, get_or, map, filter, drop, Option, Some, None, refl, ap, ◌∙◌}
 use Rattle.std.specs.List.{flat_map, range_with_len}
 use Rattle.std.proofs.Math.ListN.{drop_of_length-le}
 use Rattle.std.proofs.lemmas.List.{drop_more, length-map, map-append}
@@ -10,7 +10,7 @@ use Rattle.tda_model.specs.Cells.{possible_cells}
 use Rattle.tda_model.specs.Groups.{kind_count}
 use Rattle.tda_model.specs.Sizes.{groups_at}
 use Rattle.tda_model.specs.Spine.{Spine, level_of, nation_of, units_at, children_of}
-use Rattle.tda_prices.specs.Items.{Item, OfState, OfKind, OfCell, OfGroup, unit_items, items_of}
+use Rattle.tda_prices.specs.Items.{Item, OfState, OfKind, OfCell, OfGroup, unit_items}
 use Rattle.tda_prices.specs.Parts.{rows_of, state_rows, kind_rows, cell_rows, group_rows, child_rows}
 use Rattle.tda_prices.specs.PricesText.{fit_field, item_fields, fit_places}
 

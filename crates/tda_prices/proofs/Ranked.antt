@@ -1,11 +1,11 @@
 -- Units that get the numbers from a first one on stand at them.
-use Rattle.std.proofs.Common.{◌≡◌, ℕ, zero, suc, ◌+◌, ◌<◌, ◌≤◌, ◌^◌, List, [], ◌∷◌, ◌++◌, length, get_or, set, drop, take, replicate, Some, refl, sym, ap, ◌∙◌, subst, arith, take_all, append-nil}
+use Rattle.std.proofs.Common.{◌≡◌, ℕ, zero, suc, ◌+◌, ◌<◌, ◌≤◌, List, [], ◌∷◌, ◌++◌, length, get_or, set, drop, take, replicate, Some, refl, sym, ap, ◌∙◌, subst, arith, take_all, append-nil}
 use Rattle.std.specs.Prelude.{slice_get}
 use Rattle.std.specs.List.{AllByRecursion, flat_map, sum_by, range_with_len}
 use Rattle.std.proofs.lemmas.List.{drop_more, get_or-set_same, get_or-set_other, length-set, length-replicate}
 use Rattle.std.proofs.lemmas.List.Sums.{sum_by-cons}
 use Rattle.std.proofs.lemmas.Option.{slice_get-get_or}
-use Rattle.tda_model.specs.Spine.{Spine, IsUnit, nation_of, children_of, parents_of}
+use Rattle.tda_model.specs.Spine.{Spine, children_of}
 use Rattle.tda_model.specs.TablesText.{units_in_order}
 use Rattle.tda_model.proofs.Shares.{sum_range_more}
 use Rattle.tda_spine.specs.Sound.{IsSound}

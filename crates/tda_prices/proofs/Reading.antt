@@ -1,7 +1,7 @@
 -- What reading rows for their places gives, and how it goes on.
-use Rattle.std.proofs.Common.{◌≡◌, ◌≢◌, ℕ, suc, ◌+◌, ◌<◌, ◌≤◌, Bool, true, false, not, cond, List, [], ◌∷◌, ◌++◌, length, get_or, map, drop, take, Option, Some, None, Result, Ok, Err, ℤ, pos, nat_abs, All, is_none, refl, sym, ap, ◌∙◌, subst, arith, length-append}
+use Rattle.std.proofs.Common.{◌≡◌, ℕ, ◌+◌, ◌<◌, ◌≤◌, List, [], ◌∷◌, ◌++◌, length, get_or, map, drop, Option, Some, None, Result, Ok, Err, ℤ, pos, nat_abs, refl, sym, ap, ◌∙◌, subst, arith, length-append}
 use Rattle.std.specs.Prelude.{option_map, unwrap_or, IfErr}
-use Rattle.std.proofs.lemmas.List.{append_assoc, append-nil, drop_more, drop_all}
+use Rattle.std.proofs.lemmas.List.{append_assoc, append-nil, drop_more}
 use Rattle.std.proofs.lemmas.List.Elements.{All-append, All-cons}
 use Rattle.tda_io.specs.Csv.{Row}
 use Rattle.tda_io.specs.Due.{◌>>◌, none_of}
@@ -9,10 +9,10 @@ use Rattle.tda_io.specs.RowReading.{RowsRead, TakesRow, EndsRows, ReadsRest, Rea
 use Rattle.tda_io.specs.declared.rows.RowFault.{RowFault}
 use Rattle.tda_io.specs.declared.rows.RowFault.TheVariants as row_fault
 use Rattle.tda_prices.specs.Faults.{of_prices}
-use Rattle.tda_prices.specs.Left.{price_in_row, names_place, placed_fault, past_fault, following, left_due, due, Reads, Stops}
+use Rattle.tda_prices.specs.Left.{price_in_row, placed_fault, past_fault, following, left_due, due, Reads, Stops}
 use Rattle.tda_prices.specs.PricesText.{price_limit}
 use Rattle.tda_prices.specs.declared.fault.PriFault.{PriFault}
-use Rattle.tda_prices.specs.declared.fault.PriFault.TheVariants.{BadRow, WrongPlace, BadNumber, Missing, TooMany, NoMemory}
+use Rattle.tda_prices.specs.declared.fault.PriFault.TheVariants.{BadRow, Missing}
 
 following_none : (r : Result (List ℤ) PriFault) → following [] r ≡ r
 following_none (Ok xs) = refl

@@ -1,5 +1,5 @@
 -- Where the prices of a fit stand among those of all fits.
-use Rattle.std.proofs.Common.{◌≡◌, ℕ, zero, suc, ◌+◌, ◌-◌, ◌<◌, ◌≤◌, cond, false, List, [], ◌∷◌, ◌++◌, length, get_or, map, Option, Some, None, ℤ, pos, refl, sym, ap, ◌∙◌, subst, arith, length-append}
+use Rattle.std.proofs.Common.{◌≡◌, ℕ, zero, suc, ◌+◌, ◌<◌, ◌≤◌, cond, false, List, [], ◌∷◌, length, get_or, Option, Some, None, ℤ, pos, refl, sym, ap, ◌∙◌, subst, arith, length-append}
 use Rattle.std.specs.Prelude.{IfNone, IfSome, slice_index}
 use Rattle.std.specs.List.{AllByRecursion, between, flat_map}
 use Rattle.std.proofs.lemmas.List.{get_or-map, length-map, ext_get_or}
@@ -10,9 +10,9 @@ use Rattle.tda_model.specs.Spine.{Spine, nation_of, parents_of, IsTree}
 use Rattle.tda_spine.specs.Judged.{fits_of}
 use Rattle.tda_spine.specs.Sound.{IsInner}
 use Rattle.tda_spine.proofs.FitOrder.{each_inner}
-use Rattle.tda_prices.specs.Items.{Item, OfKind, items_of, price_count, prices_of}
+use Rattle.tda_prices.specs.Items.{OfKind, items_of, price_count, prices_of}
 use Rattle.tda_prices.specs.Kept.{PriceList, ArePricesOf, BeginsThere}
-use Rattle.tda_prices.specs.Priced.{same_item, same_fit, before, prices_before, price_in}
+use Rattle.tda_prices.specs.Priced.{same_item, same_fit, prices_before, price_in}
 use Rattle.tda_prices.specs.PricesText.{fit_field, item_fields, fit_places, places_of}
 use Rattle.tda_prices.proofs.PricedBack.{AreApart, before_at, fits_apart, items_apart, own_fit, own_item}
 

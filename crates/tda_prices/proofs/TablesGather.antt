@@ -1,7 +1,7 @@
 -- The counts of the rows of a file of tables that were read so far.
-use Rattle.std.proofs.Common.{◌≡◌, ◌≢◌, ℕ, zero, suc, ◌+◌, ◌*◌, ◌-◌, ◌<◌, ◌≤◌, ◌&&◌, ◌==◌, ◌^◌, cond, Bool, true, false, List, [], ◌∷◌, ◌++◌, length, get_or, map, Option, Some, None, Result, Ok, Err, pos, negsuc, ℤ, nat_le, nat_lt, refl, sym, ap, ◌∙◌, subst, inl, inr, arith, eq-eqb, ne_eqb}
+use Rattle.std.proofs.Common.{◌≡◌, ℕ, suc, ◌+◌, ◌*◌, ◌-◌, ◌<◌, ◌≤◌, ◌&&◌, ◌==◌, ◌^◌, cond, Bool, true, false, List, [], ◌∷◌, ◌++◌, length, get_or, Option, Some, None, Ok, Err, pos, negsuc, ℤ, nat_le, refl, sym, ap, ◌∙◌, subst, inl, inr, arith}
 use Rattle.std.specs.Option.{option_or}
-use Rattle.std.specs.Prelude.{find, position, unwrap_or, is_none}
+use Rattle.std.specs.Prelude.{find, position, unwrap_or}
 use Rattle.std.specs.Str.{bytes_eq}
 use Rattle.std.proofs.lemmas.Bool.{cases_eq, cases_lt, eqb-true, false_from_ne_true, le-leb, leb-false, lt-ltb}
 use Rattle.std.proofs.lemmas.List.{get_or-append_right, get_or_append_left, length_push}
@@ -14,17 +14,16 @@ use Rattle.tda_io.specs.RowReading.{RowsRead, TakesRow, bad_rest, rest_due}
 use Rattle.tda_io.specs.Texts.{int_of}
 use Rattle.tda_io.proofs.RestDue.{Passed, all_passed, leads_on, leads_to, none_passed, passes, rest_bad, rest_fault, rest_fine}
 use Rattle.tda_model.specs.Schema.{Schema}
-use Rattle.tda_model.specs.Cells.{cell_count, all_cells}
+use Rattle.tda_model.specs.Cells.{cell_count}
 use Rattle.tda_model.specs.Spine.{Spine, code_of, IsUnit}
 use Rattle.tda_model.specs.TablesText.{units_in_order}
-use Rattle.tda_model.proofs.Sums.{Each, each_weaker}
 use Rattle.tda_spine.specs.Sound.{IsSound}
 use Rattle.tda_out.specs.Counts.{Counts, count_at, counts_of, with_count, AreCountsOf}
 use Rattle.tda_out.proofs.RowLemmas.{counts_are, count_of, counts_by, counts_changed, grid_of, changed_here, kept_unit, kept_cell}
 use Rattle.tda_prices.specs.TablesRead as tables
 use Rattle.tda_prices.specs.TablesRead.{number_within, whole_within, count_in, spot_by, spot_in, last_spot, comes_late, fault_after, row_fault, names, format}
 use Rattle.tda_prices.specs.declared.fault.TabFault.{TabFault}
-use Rattle.tda_prices.specs.declared.fault.TabFault.TheVariants.{BadRow, WrongPlace, BadNumber}
+use Rattle.tda_prices.specs.declared.fault.TabFault.TheVariants.{BadRow, WrongPlace}
 use Rattle.tda_prices.proofs.Starts.{Stands, all_stand}
 use Rattle.tda_out.proofs.Once.{each_unit}
 use Rattle.tda_prices.proofs.TablesFine.{last_append, unit_at}

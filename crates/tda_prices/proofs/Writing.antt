@@ -1,6 +1,6 @@
 -- Rows that are written one after the other, and what is left to be written.
 use Rattle.std.proofs.Common.{◌≡◌, ℕ, zero, suc, suc-mul, ◌+◌, ◌-◌, ◌*◌, ◌<◌, ◌≤◌, List, [], ◌∷◌, ◌++◌, length, get_or, drop, take, ℤ, pos, nat_abs, of_z, to_z, All, Option, None, Some, refl, sym, ap, ◌∙◌, subst, arith, append_assoc, append-nil}
-use Rattle.std.specs.List.{between, flat_map, zip}
+use Rattle.std.specs.List.{between}
 use Rattle.std.specs.Int.{w128}
 use Rattle.std.proofs.lemmas.Int.{fits_signed_from_abs, to_z-of_z}
 use Rattle.std.proofs.Math.Seq.{drop-nil, take-append_seam}

@@ -1,5 +1,5 @@
 -- What is written is accepted and gives the value back, and no file is longer than its reader takes.
-use Rattle.std.specs.Prelude.{◌≡◌, ◌≤◌, ◌^◌, ℕ, ℤ, List, length, Ok}
+use Rattle.std.specs.Prelude.{◌≡◌, ◌≤◌, ◌^◌, ℤ, List, length, Ok}
 use Rattle.tda_model.specs.Schema.{Schema}
 use Rattle.tda_model.specs.Spine.{Spine}
 use Rattle.tda_model.specs.Tables.{Tables}

@@ -1,5 +1,5 @@
 -- Where each unit stands in the order of the file of tables.
-use Rattle.std.specs.Prelude.{◌≡◌, ◌+◌, ◌<◌, ℕ, List, [], ◌∷◌, length, slice_get, slice_index, slice_set, Some}
+use Rattle.std.specs.Prelude.{◌≡◌, ◌+◌, ℕ, List, [], ◌∷◌, length, slice_get, slice_index, slice_set, Some}
 use Rattle.tda_model.specs.Spine.{Spine, IsUnit}
 use Rattle.tda_model.specs.TablesText.{units_in_order}
 

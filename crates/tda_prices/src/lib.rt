@@ -18,6 +18,3 @@ pub use prices::Prices;
 pub use reader::read_prices;
 pub use tables::read_tables;
 pub use writer::{write_prices, write_prices_header};
-
-#[cfg(test)]
-mod tests;

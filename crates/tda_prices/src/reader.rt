@@ -52,11 +52,7 @@ fn read_price(place: Place, rows: &mut RowReader, prices: &mut Vec<i128>) -> Res
 }
 
 // Appends the prices of the states.
-fn read_states(
-    spine: &Spine,
-    rows: &mut RowReader,
-    prices: &mut Vec<i128>,
-) -> Result<(), PriFault>
+fn read_states(spine: &Spine, rows: &mut RowReader, prices: &mut Vec<i128>) -> Result<(), PriFault>
     requires some { 0 < rows.old.number }
     requires width { rows.old.width ≡ 5 }
     ensures ok { OnOk result (Reads (state_rows spine.now) [] rows.old rows.new prices.old.items prices.new.items) }

@@ -1,4 +1,4 @@
-use Rattle.std.proofs.Common.{◌≡◌, ◌≤◌, ◌<◌, ◌+◌, ◌*◌, ◌^◌, ◌∙◌, Some, None, ap, sym, arith, length, suc}
+use Rattle.std.proofs.Common.{◌≡◌, ◌≤◌, ◌+◌, ◌*◌, ◌^◌, ◌∙◌, ap, sym, arith, length}
 use Rattle.std.proofs.Math.Nat.{mul-le-mul}
 use Rattle.tda_model.specs.Cells.{possible_cells}
 use Rattle.tda_model.specs.Sizes.{groups_at}

@@ -1,8 +1,6 @@
-use Rattle.std.proofs.Common.{◌≡◌, ◌≤◌, ◌<◌, ◌^◌, ◌+◌, ◌++◌, ◌∙◌, All, [], ap, sym, subst, arith, length, length-append, drop, get_or}
+use Rattle.std.proofs.Common.{◌≡◌, ◌<◌, ◌+◌, ◌∙◌, All, ap, sym, subst, arith, length, length-append, drop, get_or}
 use Rattle.std.specs.List.{flat_map}
-use Rattle.tda_model.specs.Spine.{IsUnit, children_of}
-use Rattle.tda_model.specs.TablesText.{units_in_order}
-use Rattle.tda_spine.specs.Sound.{IsInner}
+use Rattle.tda_model.specs.Spine.{children_of}
 use Rattle.tda_spine.proofs.Fits.{inner_at}
 use Rattle.tda_prices.specs.Ranks.{ranked}
 use Rattle.tda_prices.proofs.PartRows.{none_left}

@@ -1,4 +1,4 @@
-use Rattle.std.proofs.Common.{◌≡◌, inl, inr, subst, sym, arith, get_or, length, []}
+use Rattle.std.proofs.Common.{◌≡◌, inl, inr, subst, arith, []}
 use Rattle.std.proofs.lemmas.Bool.{cases_lt}
 use Rattle.std.proofs.lemmas.List.{get_or_default}
 use Rattle.tda_model.specs.Groups.{LevelIsNested}

@@ -1,4 +1,4 @@
-use Rattle.std.proofs.Common.{◌≡◌, ◌∙◌, [], Err, ap, sym}
+use Rattle.std.proofs.Common.{◌∙◌, [], Err, ap, sym}
 use Rattle.std.proofs.lemmas.Result.{err_from_is_err_and}
 use Rattle.tda_prices.proofs.DueOf.{all_stops, end_fault, end_stops, ended}
 use Rattle.tda_prices.proofs.Reading.{rest_stops, row_stops}

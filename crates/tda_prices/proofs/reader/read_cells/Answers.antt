@@ -1,21 +1,15 @@
-use Rattle.std.proofs.Common.{◌≡◌, ◌<◌, ◌+◌, ◌++◌, ◌∷◌, ◌∙◌, [], All, None, Some, ap, sym, subst, arith, length, get_or, drop, filter}
+use Rattle.std.proofs.Common.{◌≡◌, ◌<◌, ◌∷◌, ◌∙◌, [], Some, ap, sym, subst, arith, length, get_or, filter}
 use Rattle.std.specs.Prelude.{codes}
 use Rattle.std.specs.Fmt.{decimal}
-use Rattle.std.specs.List.{flat_map, range_with_len}
-use Rattle.std.proofs.lemmas.List.{drop_more}
 use Rattle.std.proofs.lemmas.List.FromFn.{get_or-range_with_len, length-range_with_len}
 use Rattle.std.proofs.lemmas.Result.{err_from_is_err_and}
 use Rattle.tda_model.specs.Cells.{all_cells, cell_count, is_possible}
-use Rattle.tda_model.specs.Groups.{kind_count}
-use Rattle.tda_model.specs.Sizes.{groups_at}
-use Rattle.tda_model.specs.Spine.{IsUnit, code_of, level_of, units_at, children_of}
-use Rattle.tda_prices.specs.Items.{OfState, OfKind, OfCell, OfGroup}
+use Rattle.tda_model.specs.Spine.{code_of}
+use Rattle.tda_prices.specs.Items.{OfCell}
 use Rattle.tda_prices.specs.Left.{Reads}
-use Rattle.tda_prices.specs.Parts.{rows_of, state_rows, kind_rows, cell_rows, group_rows, child_rows}
-use Rattle.tda_prices.specs.PricesText.{fit_field}
-use Rattle.tda_prices.proofs.Counts.{children_units, level_units}
-use Rattle.tda_prices.proofs.PartRows.{filter_on, filter_past, next_row, none_left}
-use Rattle.tda_prices.proofs.Reading.{all_read, read_next, read_part, reads_none, stop_next, stop_part}
+use Rattle.tda_prices.specs.Parts.{rows_of, cell_rows}
+use Rattle.tda_prices.proofs.PartRows.{filter_on, filter_past, none_left}
+use Rattle.tda_prices.proofs.Reading.{all_read, read_next, stop_next}
 use Rattle.tda_prices.proofs.reader.read_cells.Goals as goal
 use Rattle.tda_prices.proofs.reader.read_cells.Goals.{then-possible+in_ok-read_price, else-possible}
 
@@ -48,7 +42,7 @@ loop-cell-preserved c =
           (read_next (cell_rows s sp c.args.parent) _ _ _ _ c.args.rows.now c.loop-cell.rows c.args.prices.now.items c.loop-cell.prices.items
           (ap (rows_of sp (Some c.args.parent) OfCell) (filter_on xs k (is_possible s) 0 below (ap (is_possible s) at ∙ sym c.possible.ensures ∙ w.if-possible.true)))
           (ap (λ x. x ∷ codes "cell" ∷ codes "-" ∷ decimal k ∷ []) w.code.ensures.code
-    ∙ ap (λ m. code_of sp c.args.parent ∷ codes "cell" ∷ codes "-" ∷ decimal m ∷ []) (sym at)) c.loop-cell.invariant w.read_price.new.rows w.read_price.new.prices.items w.in_ok-read_price.ensures.ok)
+          ∙ ap (λ m. code_of sp c.args.parent ∷ codes "cell" ∷ codes "-" ∷ decimal m ∷ []) (sym at)) c.loop-cell.invariant w.read_price.new.rows w.read_price.new.prices.items w.in_ok-read_price.ensures.ok)
       | else-possible w ↦ rw (w.rows-is, w.prices-is)
           (subst (λ l. Reads (cell_rows s sp c.args.parent) l c.args.rows.now c.loop-cell.rows c.args.prices.now.items c.loop-cell.prices.items)
           (ap (rows_of sp (Some c.args.parent) OfCell) (filter_past xs k (is_possible s) 0 below (ap (is_possible s) at ∙ sym c.possible.ensures ∙ w.if-possible.false))) c.loop-cell.invariant)

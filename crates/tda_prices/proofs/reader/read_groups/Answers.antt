@@ -1,21 +1,16 @@
-use Rattle.std.proofs.Common.{◌≡◌, ◌<◌, ◌+◌, ◌++◌, ◌∷◌, ◌∙◌, [], All, None, Some, ap, sym, subst, arith, length, get_or, drop, filter}
+use Rattle.std.proofs.Common.{◌≡◌, ◌<◌, ◌∷◌, ◌∙◌, [], ap, sym, arith, length, get_or}
 use Rattle.std.specs.Prelude.{codes}
 use Rattle.std.specs.Fmt.{decimal}
-use Rattle.std.specs.List.{flat_map, range_with_len}
-use Rattle.std.proofs.lemmas.List.{drop_more}
+use Rattle.std.specs.List.{range_with_len}
 use Rattle.std.proofs.lemmas.List.FromFn.{get_or-range_with_len, length-range_with_len}
 use Rattle.std.proofs.lemmas.Result.{err_from_is_err_and}
-use Rattle.tda_model.specs.Cells.{all_cells, cell_count, is_possible}
-use Rattle.tda_model.specs.Groups.{kind_count}
 use Rattle.tda_model.specs.Sizes.{groups_at}
-use Rattle.tda_model.specs.Spine.{IsUnit, code_of, level_of, units_at, children_of}
-use Rattle.tda_prices.specs.Items.{OfState, OfKind, OfCell, OfGroup}
-use Rattle.tda_prices.specs.Left.{Reads}
-use Rattle.tda_prices.specs.Parts.{rows_of, state_rows, kind_rows, cell_rows, group_rows, child_rows}
+use Rattle.tda_model.specs.Spine.{code_of, level_of}
+use Rattle.tda_prices.specs.Items.{OfGroup}
+use Rattle.tda_prices.specs.Parts.{rows_of, group_rows}
 use Rattle.tda_prices.specs.PricesText.{fit_field}
-use Rattle.tda_prices.proofs.Counts.{children_units, level_units}
-use Rattle.tda_prices.proofs.PartRows.{filter_on, filter_past, next_row, none_left}
-use Rattle.tda_prices.proofs.Reading.{all_read, read_next, read_part, reads_none, stop_next, stop_part}
+use Rattle.tda_prices.proofs.PartRows.{next_row, none_left}
+use Rattle.tda_prices.proofs.Reading.{all_read, read_next, reads_none, stop_next}
 use Rattle.tda_prices.proofs.reader.read_groups.Goals as goal
 
 pub loop-group-init : goal.loop-group-init

@@ -1,5 +1,4 @@
 use Rattle.std.proofs.Common.{◌≤◌, arith}
-use Rattle.tda_model.specs.Cells.{cell_count}
 use Rattle.tda_model.specs.Groups.{kind_count}
 use Rattle.tda_prices.proofs.FileLaws.{prices_read_back, prices_short}
 use Rattle.tda_prices.proofs.reader.read_prices.Goals as goal

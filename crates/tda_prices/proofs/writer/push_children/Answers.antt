@@ -1,23 +1,11 @@
-use Rattle.std.proofs.Common.{◌≡◌, ◌<◌, ◌+◌, ◌-◌, ◌*◌, ◌++◌, ◌∷◌, ◌∙◌, [], All, None, Some, ℤ, ap, refl, sym, subst, arith, length, get_or, drop, filter, pos}
-use Rattle.std.specs.Prelude.{codes}
-use Rattle.std.specs.Fmt.{decimal}
-use Rattle.std.specs.List.{between, flat_map, range_with_len}
+use Rattle.std.proofs.Common.{◌≡◌, ◌<◌, ◌+◌, ◌-◌, ◌*◌, ◌++◌, ◌∙◌, All, Some, ap, sym, subst, arith, length, get_or, drop}
+use Rattle.std.specs.List.{between, flat_map}
 use Rattle.std.proofs.lemmas.List.{drop_more}
-use Rattle.std.proofs.lemmas.List.FromFn.{get_or-range_with_len, length-range_with_len}
-use Rattle.tda_io.proofs.Appends.{on_err}
-use Rattle.tda_io.proofs.PlainNames.{plain_name}
-use Rattle.tda_io.specs.Texts.{IsPlain}
-use Rattle.tda_model.specs.Cells.{all_cells, cell_count, is_possible}
-use Rattle.tda_model.specs.Groups.{kind_count}
 use Rattle.tda_model.specs.Sizes.{groups_at}
-use Rattle.tda_model.specs.Spine.{IsUnit, code_of, level_of, units_at, children_of}
-use Rattle.tda_prices.specs.Items.{OfState, OfKind, OfCell, OfGroup}
-use Rattle.tda_prices.specs.Parts.{rows_of, state_rows, kind_rows, cell_rows, group_rows, child_rows}
-use Rattle.tda_prices.specs.PricesText.{fit_field}
-use Rattle.tda_prices.proofs.Counts.{children_units, level_units}
-use Rattle.tda_prices.proofs.PartRows.{filter_on, filter_past, next_row, none_left}
-use Rattle.tda_prices.proofs.Writing.{all_written, begins_on, kept, write_next, write_part}
-use Rattle.std.proofs.lemmas.List.{length-map}
+use Rattle.tda_model.specs.Spine.{IsUnit, level_of, children_of}
+use Rattle.tda_prices.specs.Parts.{group_rows, child_rows}
+use Rattle.tda_prices.proofs.Counts.{children_units}
+use Rattle.tda_prices.proofs.Writing.{write_part}
 use Rattle.std.proofs.lemmas.List.Edits.{length-between}
 use Rattle.tda_out.proofs.WrittenRows.{part_fits}
 use Rattle.tda_prices.proofs.Counts.{children_levels}

@@ -1,10 +1,10 @@
-use Rattle.std.proofs.Common.{◌≡◌, ◌∙◌, ◌++◌, ◌∷◌, ◌<◌, ◌^◌, refl, [], List, ℕ, ℤ, ap, arith, length, of_z, pos, sym, take, to_z}
+use Rattle.std.proofs.Common.{◌≡◌, ◌∙◌, ◌++◌, ◌∷◌, refl, [], ap, arith, length, of_z, take, to_z}
 use Rattle.std.proofs.lemmas.Int.{ints, to_z-of_z}
 use Rattle.std.specs.Int.{w128}
 use Rattle.std.specs.Fmt.{decimal, signed_decimal}
 use Rattle.tda_io.specs.Texts.{row_text}
 use Rattle.tda_io.proofs.Appends.{on_err}
-use Rattle.tda_prices.proofs.Writing.{Grows, five_fields, grown_start, grows_field, grows_none, grows_on, two_numbers}
+use Rattle.tda_prices.proofs.Writing.{five_fields, grown_start, grows_field, grows_none, grows_on, two_numbers}
 use Rattle.tda_prices.proofs.writer.push_price.Goals as goal
 
 pub returns-in_err-push-2-clause-err : goal.returns-in_err-push-2-clause-err

@@ -1,9 +1,8 @@
-use Rattle.std.proofs.Common.{◌≡◌, ◌+◌, ◌++◌, ◌∙◌, None, ap, sym, subst, arith, length}
+use Rattle.std.proofs.Common.{◌≡◌, ◌++◌, ◌∙◌, None, ap, sym, subst, arith, length}
 use Rattle.std.specs.Prelude.{OnOk}
 use Rattle.std.proofs.lemmas.Result.{on_ok_weaker}
-use Rattle.tda_model.specs.Groups.{kind_count}
 use Rattle.tda_model.specs.Sizes.{groups_at}
-use Rattle.tda_model.specs.Spine.{level_of, nation_of, units_at}
+use Rattle.tda_model.specs.Spine.{level_of, nation_of}
 use Rattle.tda_prices.specs.Parts.{group_rows, kind_rows, numbered_text, state_rows}
 use Rattle.tda_prices.proofs.Counts.{root_count}
 use Rattle.tda_prices.proofs.PartRows.{kinds_long, root_rows, states_long}

@@ -1,7 +1,6 @@
-use Rattle.std.proofs.Common.{◌≡◌, ◌≤◌, ◌+◌, ◌-◌, ◌*◌, ◌^◌, ◌++◌, ◌∙◌, Some, ap, sym, arith, length, take, drop}
+use Rattle.std.proofs.Common.{◌≡◌, ◌≤◌, ◌+◌, ◌-◌, ◌*◌, ◌^◌, ◌++◌, ◌∙◌, ap, sym, arith, length}
 use Rattle.std.proofs.Math.Nat.{mul-le-mul}
 use Rattle.std.proofs.lemmas.Result.{on_ok_weaker}
-use Rattle.tda_model.specs.Cells.{possible_cells}
 use Rattle.tda_model.specs.Sizes.{groups_at}
 use Rattle.tda_model.specs.Spine.{children_of, is_child, level_of}
 use Rattle.tda_spine.proofs.Numbers.{length-kept-le}

@@ -1,6 +1,5 @@
-use Rattle.std.proofs.Common.{◌≡◌, ◌+◌, ◌∙◌, ap, arith, length}
+use Rattle.std.proofs.Common.{◌+◌, ◌∙◌, ap, arith, length}
 use Rattle.std.specs.List.{between}
-use Rattle.tda_prices.specs.Items.{price_count}
 use Rattle.tda_prices.proofs.Starts.{begins, part_is, room, start_is}
 use Rattle.tda_prices.proofs.prices.Prices.of_fit.Goals as goal
 
