@@ -1,0 +1,11 @@
+pub mod Layout
+pub mod Terms
+pub mod Arcs
+pub mod Fits
+pub mod NamedNetwork
+pub mod Inputs
+pub mod FitNetwork
+pub mod Rows
+pub mod GroupFlows
+pub mod Giving
+pub mod Plain
