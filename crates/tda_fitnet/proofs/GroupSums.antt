@@ -11,21 +11,21 @@ use Rattle.tda_groups.proofs.Ascending.{ascends, fits_in}
 use Rattle.tda_groups.proofs.Ordering.{within_tells, has_first}
 use Rattle.tda_groups.proofs.Chained.{holds-Decides, later_within, set_at}
 use Rattle.tda_schema.specs.Parts.{holds}
-use Rattle.tda_fitnet.specs.Chains.{last_where, has_cell, smallest_of, next_of}
+use Rattle.tda_groups.specs.Chains.{last_passing, has_cell, smallest_of, next_of}
 use Rattle.tda_fitnet.proofs.Ranges.{below, below_same}
 use Rattle.tda_fitnet.proofs.Inner.{tick, linked}
 
-last_same : (p q : ℕ → Bool) (n : ℕ) → ((i : ℕ) → i < n → p i ≡ q i) → last_where p n ≡ last_where q n
+last_same : (p q : ℕ → Bool) (n : ℕ) → ((i : ℕ) → i < n → p i ≡ q i) → last_passing p n ≡ last_passing q n
 last_same p q zero h = refl
-last_same p q (suc n) h = ap (λ b. cond b n (last_where p n)) (h n (omega arith)) ∙ ap (λ m. cond (q n) n m) (last_same p q n (λ i l. h i (omega arith)))
+last_same p q (suc n) h = ap (λ b. cond b n (last_passing p n)) (h n (omega arith)) ∙ ap (λ m. cond (q n) n m) (last_same p q n (λ i l. h i (omega arith)))
 
-pub last_less : (p : ℕ → Bool) (n : ℕ) → 1 ≤ n → last_where p n < n
+pub last_less : (p : ℕ → Bool) (n : ℕ) → 1 ≤ n → last_passing p n < n
 last_less p zero some = absurd (omega arith)
-last_less p (suc n) some = here (p n) n (last_where p n) (last_le p n)
+last_less p (suc n) some = here (p n) n (last_passing p n) (last_le p n)
   where
-    last_le : (p : ℕ → Bool) (n : ℕ) → last_where p n ≤ n
+    last_le : (p : ℕ → Bool) (n : ℕ) → last_passing p n ≤ n
     last_le p zero = omega arith
-    last_le p (suc n) = step (p n) n (last_where p n) (last_le p n)
+    last_le p (suc n) = step (p n) n (last_passing p n) (last_le p n)
       where
         step : (b : Bool) (n m : ℕ) → m ≤ n → cond b n m ≤ suc n
         step true n m l = omega arith
@@ -65,7 +65,7 @@ module _ (groups : List (List ℕ)) (h : AreGroups groups) (cells : List ℕ) (w
   tells j g = (holds-Decides (group_at groups g) j).0
 
   -- before a group with the cell, the groups with the cell are those with the group's first cell
-  pub next_is_last : (j k : ℕ) → k < G → has j k ≡ true → next_of groups k ≡ last_where (has j) k
+  pub next_is_last : (j k : ℕ) → k < G → has j k ≡ true → next_of groups k ≡ last_passing (has j) k
   next_is_last j k low here =
       let first = first_cell (group_at groups k) in
       let found : Contains (group_at groups k) j = tells j k here in
@@ -83,13 +83,13 @@ module _ (groups : List (List ℕ)) (h : AreGroups groups) (cells : List ℕ) (w
   one_cell y j g found low =
       let some : 1 ≤ G = h.some in
       let link = linked y (has j) G g (ap (λ xs. holds xs j) whole ∙ (holds-Decides cells j).1 found) some in
-      let same : below G (λ k. cond (nat_lt 0 k && eqb (next_of groups k) g) (tick y (has j k)) 0) ≡ below G (λ k. tick y (nat_lt 0 k && (has j k && eqb (last_where (has j) k) g))) =
-      below_same G _ (λ k. tick y (nat_lt 0 k && (has j k && eqb (last_where (has j) k) g))) (λ k l. elim (cases_Bool (has j k)) [
+      let same : below G (λ k. cond (nat_lt 0 k && eqb (next_of groups k) g) (tick y (has j k)) 0) ≡ below G (λ k. tick y (nat_lt 0 k && (has j k && eqb (last_passing (has j) k) g))) =
+      below_same G _ (λ k. tick y (nat_lt 0 k && (has j k && eqb (last_passing (has j) k) g))) (λ k l. elim (cases_Bool (has j k)) [
         | inl passes ↦ ap (λ b. cond (nat_lt 0 k && eqb (next_of groups k) g) (tick y b) 0) passes
             ∙ ap (λ n. cond (nat_lt 0 k && eqb n g) y 0) (next_is_last j k l passes)
-            ∙ sym (ap (λ b. tick y (nat_lt 0 k && (b && eqb (last_where (has j) k) g))) passes)
+            ∙ sym (ap (λ b. tick y (nat_lt 0 k && (b && eqb (last_passing (has j) k) g))) passes)
         | inr misses ↦ ap (λ b. cond (nat_lt 0 k && eqb (next_of groups k) g) (tick y b) 0) misses ∙ none _
-            ∙ sym (ap (λ b. tick y (nat_lt 0 k && (b && eqb (last_where (has j) k) g))) misses ∙ none2 (nat_lt 0 k))
+            ∙ sym (ap (λ b. tick y (nat_lt 0 k && (b && eqb (last_passing (has j) k) g))) misses ∙ none2 (nat_lt 0 k))
       ]) in
       let all : tick y (has j g && nat_lt g G) ≡ tick y (has j g) = within (has j g) (nat_lt g G) (lt-ltb g G low) in
       omega (arith, same, link, all)

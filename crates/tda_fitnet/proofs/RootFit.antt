@@ -22,7 +22,7 @@ use Rattle.tda_groups.specs.Tree.{Tree, IsTreeOf}
 use Rattle.tda_fitnet.specs.declared.name.ArcName.TheVariants.{Share, Give, Group}
 use Rattle.tda_fitnet.specs.declared.layout.Layout.{Layout}
 use Rattle.tda_fitnet.specs.Layout.{source_node, kind_node, share_place, give_place, group_place}
-use Rattle.tda_fitnet.specs.Chains.{has_cell, smallest_of, next_of}
+use Rattle.tda_groups.specs.Chains.{has_cell, smallest_of, next_of}
 use Rattle.tda_fitnet.specs.Terms.{terms_of}
 use Rattle.tda_fitnet.specs.Arcs.{states, state_at, cell_at, root_layout, root_network, source_arc, share_arc, give_arc, group_arc}
 use Rattle.tda_fitnet.specs.Fits.{group_sum, net_curve, curve_of, AreShares, root_flow, RootAs}

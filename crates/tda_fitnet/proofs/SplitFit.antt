@@ -25,7 +25,7 @@ use Rattle.tda_groups.specs.Tree.{Tree, IsTreeOf}
 use Rattle.tda_fitnet.specs.declared.name.ArcName.TheVariants.{Share, Give, Group}
 use Rattle.tda_fitnet.specs.declared.layout.Layout.{Layout}
 use Rattle.tda_fitnet.specs.Layout.{source_node, give_place, group_place}
-use Rattle.tda_fitnet.specs.Chains.{has_cell, smallest_of, next_of}
+use Rattle.tda_groups.specs.Chains.{has_cell, smallest_of, next_of}
 use Rattle.tda_fitnet.specs.Terms.{terms_of, group_low, group_high}
 use Rattle.tda_fitnet.specs.Arcs.{cell_at, child_at, split_layout, split_network}
 use Rattle.tda_fitnet.specs.Fits.{group_sum, split_flow}

@@ -16,7 +16,7 @@ use Rattle.tda_fitnet.specs.declared.name.ArcName.{ArcName}
 use Rattle.tda_fitnet.specs.declared.name.ArcName.TheVariants.{Fixed, Share, Give, Group}
 use Rattle.tda_fitnet.specs.declared.layout.Layout.{Layout}
 use Rattle.tda_fitnet.specs.Layout.{layout_list, node_number, hub, source_node, kind_node, group_node}
-use Rattle.tda_fitnet.specs.Chains.{smallest_of, next_of}
+use Rattle.tda_groups.specs.Chains.{smallest_of, next_of}
 use Rattle.tda_fitnet.specs.Terms.{terms_of, group_low, group_high}
 
 pub record NamedArc : Type 0 where

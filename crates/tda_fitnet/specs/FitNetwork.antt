@@ -1,10 +1,9 @@
 -- What clauses see of the network of a fit.
-use Rattle.std.specs.Prelude.{ℕ, ◌≡◌, ◌+◌, ◌*◌, ◌<◌, ◌==◌, ℤ, List, length, map, position, Some, None, slice_index, slice_index_or, All}
+use Rattle.std.specs.Prelude.{ℕ, ◌≡◌, ◌+◌, ◌<◌, ◌==◌, ℤ, List, length, map, position, Some, None, slice_index, slice_index_or, All}
 use Rattle.tda_model.specs.Schema.{Schema}
 use Rattle.tda_model.specs.Cells.{cell_count, possible_cells}
-use Rattle.tda_model.specs.Groups.{kind_count}
 use Rattle.tda_model.specs.Spine.{Spine, level_of}
-use Rattle.tda_model.specs.Tables.{Table, Tables}
+use Rattle.tda_model.specs.Tables.{Table}
 use Rattle.tda_model.specs.Release.{Inputs}
 use Rattle.tda_schema.specs.Stated.{level_at}
 use Rattle.tda_invar.specs.Known.{JoinedLists}

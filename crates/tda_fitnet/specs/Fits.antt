@@ -13,7 +13,7 @@ use Rattle.tda_loss.specs.Curve.{value_of}
 use Rattle.tda_flow.specs.Flow.{IsCirculation, cost}
 use Rattle.tda_groups.specs.Order.{group_at}
 use Rattle.tda_fitnet.specs.Layout.{layout_list}
-use Rattle.tda_fitnet.specs.Arcs.{states, state_at, cell_at, child_at, root_layout, root_network, split_layout, split_network}
+use Rattle.tda_fitnet.specs.Arcs.{state_at, cell_at, child_at, root_layout, root_network, split_layout, split_network}
 
 -- the persons of a group
 abbrev pub group_sum : List (List ℕ) → Table → ℕ → ℕ

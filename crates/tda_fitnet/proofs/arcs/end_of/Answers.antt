@@ -2,9 +2,8 @@
 use Rattle.std.proofs.Common.{◌≡◌, ◌+◌, ◌<◌, ℕ, List, cond, sym, ap, ◌∙◌, arith, ne_eqb}
 use Rattle.tda_fitnet.specs.declared.layout.Layout.{Layout}
 use Rattle.tda_fitnet.specs.Layout.{hub, group_node}
-use Rattle.tda_fitnet.specs.Chains.{next_of}
+use Rattle.tda_groups.specs.Chains.{next_of}
 use Rattle.tda_fitnet.specs.Arcs.{group_end}
-use Rattle.tda_fitnet.proofs.Unique.{next_is_of}
 use Rattle.tda_fitnet.proofs.arcs.end_of.Goals as goal
 
 end_is : (l : Layout) (groups : List (List ℕ)) (u base g next : ℕ) → base ≡ group_node l u 0 → next < g → next ≡ next_of groups g → base + next ≡ group_end l groups u g
@@ -14,5 +13,5 @@ end_is l groups u base g next e less is =
 
 pub returns-in-Some-clause-node : goal.returns-in-Some-clause-node
 returns-in-Some-clause-node c l u e =
-    let is = c.in-Some.ensures in
-    end_is l c.args.tree.now.groups u c.args.base c.args.group c.in-Some.next e is.less (next_is_of c.args.tree.now.groups c.requires.groups c.args.group c.in-Some.next c.requires.group is)
+    let tells = c.in-Some.ensures in
+    end_is l c.args.tree.now.groups u c.args.base c.args.group c.in-Some.next e tells.least.less tells.value

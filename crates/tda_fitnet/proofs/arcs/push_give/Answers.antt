@@ -5,9 +5,8 @@ use Rattle.tda_model.specs.Bounds.{persons_limit}
 use Rattle.tda_fitnet.specs.declared.name.ArcName.TheVariants.{Give}
 use Rattle.tda_fitnet.specs.declared.layout.Layout.{Layout}
 use Rattle.tda_fitnet.specs.Layout.{group_node}
-use Rattle.tda_fitnet.specs.Chains.{smallest_of}
+use Rattle.tda_groups.specs.Chains.{smallest_of}
 use Rattle.tda_fitnet.specs.Arcs.{give_arc, plain_arc}
-use Rattle.tda_fitnet.proofs.Unique.{smallest_is_of}
 use Rattle.tda_fitnet.proofs.arcs.push_give.Goals as goal
 
 node_is : (l : Layout) (u base g h : ℕ) → base ≡ group_node l u 0 → g ≡ h → base + g ≡ group_node l u h
@@ -26,7 +25,6 @@ returns-clause-count c = on_ok_weaker c.push.result (λ e. ap (λ n. length n.ar
 pub returns-clause-arcs : goal.returns-clause-arcs
 returns-clause-arcs c l u e =
     let groups = c.args.tree.now.groups in
-    let small = smallest_is_of groups c.requires.groups c.args.cell c.smallest.result c.smallest.ensures in
     on_ok_weaker c.push.result
-    (λ d. ap (λ n. n.arcs) d ∙ ap (λ a. c.args.fit.now.arcs ++ a ∷ []) (arc_is l groups u c.args.base c.args.from c.args.unit c.args.cell c.smallest.result e small))
+    (λ d. ap (λ n. n.arcs) d ∙ ap (λ a. c.args.fit.now.arcs ++ a ∷ []) (arc_is l groups u c.args.base c.args.from c.args.unit c.args.cell c.smallest.result e c.smallest.ensures.value))
     c.push.ensures

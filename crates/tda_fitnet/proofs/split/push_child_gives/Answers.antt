@@ -1,5 +1,5 @@
 -- One more cell of a child.
-use Rattle.std.proofs.Common.{◌≡◌, ◌+◌, ◌∷◌, [], ◌++◌, ℕ, length, slice_index, ap, ◌∙◌, arith}
+use Rattle.std.proofs.Common.{◌≡◌, ◌∷◌, [], ◌++◌, length, slice_index, ap, ◌∙◌, arith}
 use Rattle.tda_groups.specs.Order.{group_at}
 use Rattle.tda_fitnet.specs.Layout.{source_node}
 use Rattle.tda_fitnet.specs.Arcs.{give_arc}

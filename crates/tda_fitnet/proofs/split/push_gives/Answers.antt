@@ -1,5 +1,5 @@
 -- One more child.
-use Rattle.std.proofs.Common.{◌≡◌, ◌+◌, ◌*◌, ◌++◌, ℕ, length, slice_index, sym, ap, ◌∙◌, arith}
+use Rattle.std.proofs.Common.{◌++◌, ℕ, length, slice_index, sym, ap, ◌∙◌, arith}
 use Rattle.tda_groups.specs.Order.{group_at}
 use Rattle.tda_fitnet.specs.Layout.{row, source_node}
 use Rattle.tda_fitnet.specs.Arcs.{give_arc}
@@ -21,6 +21,6 @@ loop-u-preserved c =
       c.in_ok-push_child_gives.ensures.nodes ∙ c.loop-u.invariant.0,
       c.in_ok-push_child_gives.ensures.count ∙ rows_count u L.cells (length c.args.fit.now.arcs) _ _ c.loop-u.invariant.1 (sym c.requires.cells),
       c.in_ok-push_child_gives.ensures.arcs L u c.first_group.ensures.node
-      ∙ ap (λ n. c.loop-u.fit.arcs ++ row n (f u)) (sym c.requires.cells)
-      ∙ rows_more _ _ u L.cells f c.loop-u.invariant.2,
+          ∙ ap (λ n. c.loop-u.fit.arcs ++ row n (f u)) (sym c.requires.cells)
+          ∙ rows_more _ _ u L.cells f c.loop-u.invariant.2,
     )

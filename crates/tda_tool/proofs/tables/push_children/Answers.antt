@@ -11,7 +11,7 @@ pub children-requires : goal.children-requires
 children-requires c =
     let sp = c.spine-spine.result.now in
     let tree : IsTree sp (nation_of sp) = subst (λ x. IsTree x (nation_of x)) (sym c.spine-spine.ensures.value) c.spine-spine.ensures.sound.sound.tree in
-    subst (All (IsUnit sp)) (sym c.parents-parent-items.ensures) (each_parent sp (IsUnit sp) tree (λ p here low. here)) c.loop-parent.parent-index 0 c.loop-parent-test.true
+    subst (All (IsUnit sp)) (sym c.parents-parent-items.ensures.value) (each_parent sp (IsUnit sp) tree (λ p here low. here)) c.loop-parent.parent-index 0 c.loop-parent-test.true
 
 pub push_units-requires-clause-units : goal.push_units-requires-clause-units
 push_units-requires-clause-units c =
@@ -24,4 +24,4 @@ returns c =
     let i = c.args.inputs.now in
     c.loop-parent.invariant
     ∙ ap (λ ps. c.args.out.now.items ++ flat_map (λ p. rows_in i.schema i.spine (plain_table i) (children_of i.spine p)) ps)
-    (take_all _ _ c.loop-parent-test.false ∙ c.parents-parent-items.ensures ∙ ap parents_of c.spine-spine.ensures.value)
+    (take_all _ _ c.loop-parent-test.false ∙ c.parents-parent-items.ensures.value ∙ ap parents_of c.spine-spine.ensures.value)

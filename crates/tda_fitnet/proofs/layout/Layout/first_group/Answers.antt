@@ -1,5 +1,5 @@
 -- The groups of one unit are among those of all units.
-use Rattle.std.proofs.Common.{◌≤◌, ◌*◌, ◌+◌, arith}
+use Rattle.std.proofs.Common.{◌*◌, arith}
 use Rattle.tda_fitnet.proofs.OneMore.{rows_room}
 use Rattle.tda_fitnet.proofs.layout.Layout.first_group.Goals as goal
 

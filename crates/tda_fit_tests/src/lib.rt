@@ -1,0 +1,5 @@
+//! Tests of the networks of fits.
+#![tactic(auto)]
+
+#[cfg(test)]
+mod nets;

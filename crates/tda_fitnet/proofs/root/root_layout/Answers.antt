@@ -1,0 +1,1 @@
+-- The layout is small, by the limits of spines.
