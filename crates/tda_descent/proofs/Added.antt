@@ -4,8 +4,8 @@ use Rattle.std.proofs.lemmas.Bool.{cases_Bool, cases_eq, eqb-true}
 use Rattle.tda_model.specs.Spine.{Spine, level_of, is_child, children_of, unit_numbers, parent_of, nation_of, parents_of, IsUnit, HasParent, IsTree}
 use Rattle.tda_model.specs.Tables.{Table, Tables}
 use Rattle.tda_model.proofs.Sums.{Each, each_filter, each_any}
-use Rattle.tda_descent.proofs.Order.{AreLed, IsLed, parents_led}
-use Rattle.tda_descent.proofs.Distinct.{apart_at, parents_apart}
+use Rattle.std.proofs.lemmas.List.Elements.{All-from_recursion, All-get_or}
+use Rattle.tda_model.proofs.FitOrder.{once_pairs, parents_once, parents_each, parent_before}
 use Rattle.tda_descent.proofs.Family.{AreSame}
 
 -- the tables of the children of p, and else those before
@@ -22,6 +22,9 @@ parent_is sp q u is = by (parent_of sp u) is
     by : (o : Option ℕ) → elim o as (λ _. Bool) [ Some r ↦ q == r | None ↦ false ] ≡ true → o ≡ Some q
     by (Some r) h = ap Some (sym (eqb-true q r h))
     by None h = cc
+
+named_child : (sp : Spine) (p u : ℕ) → parent_of sp u ≡ Some p → is_child sp p u ≡ true
+named_child sp p u e = child_of sp p u (Some p) e ∙ eq-eqb p p refl
 
 pub not_of_another : (sp : Spine) (p q u : ℕ) → p ≢ q → is_child sp q u ≡ true → is_child sp p u ≡ false
 not_of_another sp p q u other is = child_of sp p u (Some q) (parent_is sp q u is) ∙ ne_eqb p q other
@@ -41,6 +44,9 @@ module _ (sp : Spine) (t : IsTree sp (nation_of sp)) where
   pub nation_no_child : (p : ℕ) → is_child sp p (nation_of sp) ≡ false
   nation_no_child p = child_of sp p (nation_of sp) None t.root_parent
 
+  apart : (j k : ℕ) → j < k → k < length (parents_of sp) → get_or (parents_of sp) k 0 ≢ get_or (parents_of sp) j 0
+  apart j k less in_list same = once_pairs (parents_of sp) (parents_once sp t) j k 0 less in_list (sym same)
+
   -- the unit's table is there after the fits of the first k units with children: it is the nation, or a child of one of these
   abbrev pub IsReached : ℕ → ℕ → Type 0
   IsReached k u = (u ≡ nation_of sp) ⊎ ((j : ℕ) × (j < k) × (is_child sp (get_or (parents_of sp) j 0) u ≡ true))
@@ -51,7 +57,16 @@ module _ (sp : Spine) (t : IsTree sp (nation_of sp)) where
 
   -- the next unit with children has its table
   pub reached_next : (k : ℕ) → k < length (parents_of sp) → IsReached k (get_or (parents_of sp) k 0)
-  reached_next k less = (parents_led sp).led k less
+  reached_next k less =
+      let u = get_or (parents_of sp) k 0 in
+      let here : IsUnit sp u = All-get_or (IsUnit sp) (parents_of sp) k 0 less (All-from_recursion (IsUnit sp) (parents_of sp) (parents_each sp t (IsUnit sp) (λ v is above. is))) in
+      elim (cases_eq (level_of sp u) 0) [
+        | inl top ↦ inl (t.root_alone u here top)
+        | inr low ↦
+            let p = t.parent u here (omega (arith, low)) in
+            let before = parent_before sp t k less p.0 p.1 in
+            inr (before.0, before.1, subst (λ q. is_child sp q u ≡ true) (sym before.2) (named_child sp p.0 u p.1.named))
+      ]
 
   -- what is reached one unit later was reached, or is a child of that one
   pub reached_more : (k u : ℕ) → IsReached (k + 1) u → IsReached k u ⊎ (is_child sp (get_or (parents_of sp) k 0) u ≡ true)
@@ -66,7 +81,7 @@ module _ (sp : Spine) (t : IsTree sp (nation_of sp)) where
   pub not_reached : (k u : ℕ) → k < length (parents_of sp) → IsReached k u → is_child sp (get_or (parents_of sp) k 0) u ≡ false
   not_reached k u less (inl e) = ap (is_child sp (get_or (parents_of sp) k 0)) e ∙ nation_no_child (get_or (parents_of sp) k 0)
   not_reached k u less (inr below) =
-      not_of_another sp (get_or (parents_of sp) k 0) (get_or (parents_of sp) below.0 0) u (apart_at (parents_of sp) (parents_apart sp t) below.0 k below.1 less) below.2
+      not_of_another sp (get_or (parents_of sp) k 0) (get_or (parents_of sp) below.0 0) u (apart below.0 k below.1 less) below.2
 
   -- what is reached stays so
   pub reached_later : (j k u : ℕ) → j ≤ k → IsReached j u → IsReached k u
@@ -79,6 +94,6 @@ module _ (sp : Spine) (t : IsTree sp (nation_of sp)) where
   kept_earlier j k added x less in_list =
       let p = get_or (parents_of sp) k 0 in
       let q = get_or (parents_of sp) j 0 in (
-        kept_children sp p q added x (apart_at (parents_of sp) (parents_apart sp t) j k less in_list),
+        kept_children sp p q added x (apart j k less in_list),
         kept_there sp p q added x (not_reached k q in_list (reached_later j k q (omega arith) (reached_next j (omega arith)))),
       )

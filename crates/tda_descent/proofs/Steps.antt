@@ -7,6 +7,7 @@ use Rattle.std.proofs.lemmas.List.{get_or_append_left, get_or-append_right}
 use Rattle.std.proofs.lemmas.List.Elements.{All-from_recursion}
 use Rattle.tda_model.specs.Schema.{Schema}
 use Rattle.tda_model.specs.Cells.{cell_count}
+use Rattle.tda_model.specs.First.{family_counts}
 use Rattle.tda_model.specs.Release.{Inputs}
 use Rattle.tda_model.specs.Sizes.{fit_size}
 use Rattle.tda_model.specs.Spine.{Spine, is_child, children_of, unit_numbers, nation_of, IsUnit, IsTree}
@@ -37,6 +38,19 @@ module _ {K : Type 0} (called : K → Fit → Bool → K → Type 0) (fit : Fit)
   handed P Q (Err Stopped) go ends p q = (ends.0, subst Q (sym ends.1) q, ends.2)
   handed P Q (Err NoMemory) go ends p q = ends
 
+  on_ok : {A B : Type 0} (r : Result (Unit {0}) DescentStop) → (A → B) → OnOk r A → OnOk r B
+  on_ok (Ok u) f h = f h
+  on_ok (Err why) f h = tt
+
+  -- the fit of a unit's children, whose tables were stored
+  pub split_handed : (c : Curve) (i : Inputs) (p : ℕ) (x : Table) (family : Tables) → IsSplitOf c i p x family fit → (before after : List (List ℕ))
+      → (r : Result (Unit {0}) DescentStop) → OnOk r (called old fit true new) → MatchResult r (λ u. Unit {0}) (λ why. Ends called (λ f. f ≡ fit) old new why)
+      → OnOk r (AreStored i.spine i.schema fit.units.items family before after)
+      → HandsOne called (λ f. (fam : Tables) × IsSplitOf c i p x fam f × AreStored i.spine i.schema f.units.items fam before after) (λ f. (fam : Tables) × IsSplitOf c i p x fam f) old new r
+  split_handed c i p x family h before after r go ends stored =
+      handed (λ f. (fam : Tables) × IsSplitOf c i p x fam f × AreStored i.spine i.schema f.units.items fam before after) (λ f. (fam : Tables) × IsSplitOf c i p x fam f) r go ends
+      (on_ok r (λ kept. (family, h, kept)) stored) (family, h)
+
 -- the trees of one level more
 pub trees_more : (s : Schema) (level : ℕ) (trees : List Tree) (more : Tree) → length trees ≡ level
     → ((k : ℕ) (t : Tree) → k < level → IsTreeOf s (level_at s k) (get_or trees k t)) → IsTreeOf s (level_at s level) more
@@ -63,6 +77,9 @@ module _ (c : Curve) (i : Inputs) (fit : Fit) where
   pub split_length : (p : ℕ) (x : Table) (family : Tables) → IsSplitOf c i p x family fit → length fit.counts.items ≡ length fit.units.items * cell_count i.schema
   split_length p x family h =
       ap length h.counts ∙ family_length i.schema family (children_of i.spine p) ∙ ap (λ us. length us * cell_count i.schema) (sym h.units)
+
+  pub split_counts_here : (p : ℕ) (x : Table) (family : Tables) → IsSplitOf c i p x family fit → fit.counts.items ≡ family_counts i.schema fit.units.items family
+  split_counts_here p x family h = h.counts ∙ ap (λ us. family_counts i.schema us family) (sym h.units)
 
   pub split_units : (p : ℕ) (x : Table) (family : Tables) → IsSplitOf c i p x family fit → All (IsUnit i.spine) fit.units.items
   split_units p x family h = subst (All (IsUnit i.spine)) (sym h.units) (children_are_units i.spine p)

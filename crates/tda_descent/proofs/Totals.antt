@@ -4,8 +4,8 @@ use Rattle.std.proofs.lemmas.Bool.{cases_eq}
 use Rattle.std.proofs.lemmas.List.Sums.{sum_by-cons}
 use Rattle.std.specs.List.{sum_by}
 use Rattle.tda_model.specs.Spine.{Spine, level_of, is_child, children_of, unit_numbers, parent_of, nation_of, parents_of, IsUnit, HasParent, IsTree}
-use Rattle.tda_model.proofs.Sums.{Each, each_range, each_any, sum_same, sum_zero, sum_add, sum_filter, sum_swap, sum_one}
-use Rattle.tda_descent.proofs.Distinct.{AreApart, parents_apart}
+use Rattle.tda_model.proofs.Sums.{Each, each_weaker, each_range, each_any, sum_same, sum_zero, sum_add, sum_filter, sum_swap, sum_one}
+use Rattle.tda_model.proofs.FitOrder.{EachOnce, parents_once, each_inner}
 
 -- a number that comes once in a list is counted once
 abbrev counted : ℕ → ℕ → List ℕ → ℕ
@@ -32,17 +32,20 @@ counted_here v p ps h =
     let here : cond (p == p) v 0 ≡ v = ap (λ b. cond b v 0) (eq-eqb p p refl) in
     one_more v p p ps v 0 here (counted_none v p ps h) ∙ total v
 
-counted_once : (v p : ℕ) (ps : List ℕ) → AreApart ps → (Each (λ q. q ≢ p) ps → ⊥) → counted v p ps ≡ v
+counted_once : (v p : ℕ) (ps : List ℕ) → EachOnce ps → (Each (λ q. q ≢ p) ps → ⊥) → counted v p ps ≡ v
 counted_once v p [] apart among = absurd (among tt)
 counted_once v p (q ∷ qs) apart among =
     elim (cases_eq q p) [
-      | inl same ↦ subst (λ w. counted v w (q ∷ qs) ≡ v) same (counted_here v q qs apart.0)
+      | inl same ↦ subst (λ w. counted v w (q ∷ qs) ≡ v) same (counted_here v q qs (each_weaker (λ r. q ≢ r) (λ r. r ≢ q) qs (λ r other e. other (sym e)) apart.0))
       | inr other ↦
           let here : cond (q == p) v 0 ≡ 0 = ap (λ b. cond b v 0) (ne_eqb q p other) in
           one_more v p q qs 0 v here (counted_once v p qs apart.1 (λ none. among (other, none))) ∙ whole v
     ]
 
-module _ (sp : Spine) (t : IsTree sp (nation_of sp)) (among : (u : ℕ) → IsUnit sp u → level_of sp u + 1 < sp.depth → Each (λ p. p ≢ u) (parents_of sp) → ⊥) (f : ℕ → ℕ) where
+module _ (sp : Spine) (t : IsTree sp (nation_of sp)) (f : ℕ → ℕ) where
+  among : (u : ℕ) → IsUnit sp u → level_of sp u + 1 < sp.depth → Each (λ p. p ≢ u) (parents_of sp) → ⊥
+  among u here inner none = each_inner sp t (λ p. p ≢ u) none u here inner refl
+
   abbrev own : ℕ → ℕ
   own u = sum_by (λ p. cond (is_child sp p u) (f u) 0) (parents_of sp)
 
@@ -61,7 +64,7 @@ module _ (sp : Spine) (t : IsTree sp (nation_of sp)) (among : (u : ℕ) → IsUn
             let p = t.parent u here low in
             let above : level_of sp u ≡ level_of sp p.0 + 1 = p.1.above in
             let deep : level_of sp u < sp.depth = t.within u here in
-            let one : own u ≡ f u = own_of u (Some p.0) p.1.named ∙ counted_once (f u) p.0 (parents_of sp) (parents_apart sp t) (among p.0 p.1.here (omega arith)) in
+            let one : own u ≡ f u = own_of u (Some p.0) p.1.named ∙ counted_once (f u) p.0 (parents_of sp) (parents_once sp t) (among p.0 p.1.here (omega arith)) in
             let here : cond (u == nation_of sp) (f u) 0 ≡ 0 = ap (λ b. cond b (f u) 0) (ne_eqb u (nation_of sp) other) in
             omega (arith, one, here)
       ]
