@@ -40,6 +40,10 @@ kept_children sp p q added x other =
     each_filter _ (is_child sp q) (unit_numbers sp) (each_any (λ u. is_child sp q u ≡ true → with_children sp p added x u ≡ x u) (unit_numbers sp)
     (λ u is. kept_there sp p u added x (not_of_another sp p q u other is)))
 
+-- the unit's table is there after the fits of the first k units with children: it is the nation, or a child of one of these
+abbrev pub IsReached : Spine → ℕ → ℕ → Type 0
+IsReached sp k u = (u ≡ nation_of sp) ⊎ ((j : ℕ) × (j < k) × (is_child sp (get_or (parents_of sp) j 0) u ≡ true))
+
 module _ (sp : Spine) (t : IsTree sp (nation_of sp)) where
   pub nation_no_child : (p : ℕ) → is_child sp p (nation_of sp) ≡ false
   nation_no_child p = child_of sp p (nation_of sp) None t.root_parent
@@ -47,16 +51,12 @@ module _ (sp : Spine) (t : IsTree sp (nation_of sp)) where
   apart : (j k : ℕ) → j < k → k < length (parents_of sp) → get_or (parents_of sp) k 0 ≢ get_or (parents_of sp) j 0
   apart j k less in_list same = once_pairs (parents_of sp) (parents_once sp t) j k 0 less in_list (sym same)
 
-  -- the unit's table is there after the fits of the first k units with children: it is the nation, or a child of one of these
-  abbrev pub IsReached : ℕ → ℕ → Type 0
-  IsReached k u = (u ≡ nation_of sp) ⊎ ((j : ℕ) × (j < k) × (is_child sp (get_or (parents_of sp) j 0) u ≡ true))
-
-  pub reached_first : (u : ℕ) → IsReached 0 u → u ≡ nation_of sp
+  pub reached_first : (u : ℕ) → IsReached sp 0 u → u ≡ nation_of sp
   reached_first u (inl e) = e
   reached_first u (inr below) = absurd (omega (arith, below.1))
 
   -- the next unit with children has its table
-  pub reached_next : (k : ℕ) → k < length (parents_of sp) → IsReached k (get_or (parents_of sp) k 0)
+  pub reached_next : (k : ℕ) → k < length (parents_of sp) → IsReached sp k (get_or (parents_of sp) k 0)
   reached_next k less =
       let u = get_or (parents_of sp) k 0 in
       let here : IsUnit sp u = All-get_or (IsUnit sp) (parents_of sp) k 0 less (All-from_recursion (IsUnit sp) (parents_of sp) (parents_each sp t (IsUnit sp) (λ v is above. is))) in
@@ -69,7 +69,7 @@ module _ (sp : Spine) (t : IsTree sp (nation_of sp)) where
       ]
 
   -- what is reached one unit later was reached, or is a child of that one
-  pub reached_more : (k u : ℕ) → IsReached (k + 1) u → IsReached k u ⊎ (is_child sp (get_or (parents_of sp) k 0) u ≡ true)
+  pub reached_more : (k u : ℕ) → IsReached sp (k + 1) u → IsReached sp k u ⊎ (is_child sp (get_or (parents_of sp) k 0) u ≡ true)
   reached_more k u (inl e) = inl (inl e)
   reached_more k u (inr below) =
       elim (cases_eq below.0 k) [
@@ -78,13 +78,13 @@ module _ (sp : Spine) (t : IsTree sp (nation_of sp)) where
       ]
 
   -- what is reached is no child of a unit that comes later
-  pub not_reached : (k u : ℕ) → k < length (parents_of sp) → IsReached k u → is_child sp (get_or (parents_of sp) k 0) u ≡ false
+  pub not_reached : (k u : ℕ) → k < length (parents_of sp) → IsReached sp k u → is_child sp (get_or (parents_of sp) k 0) u ≡ false
   not_reached k u less (inl e) = ap (is_child sp (get_or (parents_of sp) k 0)) e ∙ nation_no_child (get_or (parents_of sp) k 0)
   not_reached k u less (inr below) =
       not_of_another sp (get_or (parents_of sp) k 0) (get_or (parents_of sp) below.0 0) u (apart below.0 k below.1 less) below.2
 
   -- what is reached stays so
-  pub reached_later : (j k u : ℕ) → j ≤ k → IsReached j u → IsReached k u
+  pub reached_later : (j k u : ℕ) → j ≤ k → IsReached sp j u → IsReached sp k u
   reached_later j k u le (inl e) = inl e
   reached_later j k u le (inr below) = inr (below.0, omega (arith, below.1), below.2)
 
