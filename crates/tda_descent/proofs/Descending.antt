@@ -61,7 +61,7 @@ each_more : {X : Type 0} (P : X → Type 0) (xs : List X) (x : X) → Each P xs 
 each_more P [] x h p = (p, tt)
 each_more P (y ∷ ys) x h p = (h.0, each_more P ys x h.1 p)
 
-folds_more : {P A : Type 0} (R : P → A → P → Type 0) (p : P) (xs : List A) (x : A) (q r : P) → FoldsTo R p xs q → R q x r → FoldsTo R p (xs ++ x ∷ []) r
+pub folds_more : {P A : Type 0} (R : P → A → P → Type 0) (p : P) (xs : List A) (x : A) (q r : P) → FoldsTo R p xs q → R q x r → FoldsTo R p (xs ++ x ∷ []) r
 folds_more R p [] x q r h step = (r, subst (λ j. R j x r) (sym h) step, refl)
 folds_more R p (y ∷ ys) x q r h step = (h.0, h.1, folds_more R h.0 ys x q r h.2 step)
 

@@ -1,6 +1,6 @@
 -- One fit after the other is handed on.
 use Rattle.std.proofs.Common.{◌≡◌, ℕ, suc, ◌+◌, ◌<◌, ◌≤◌, Bool, true, false, List, [], ◌∷◌, ◌++◌, map, length, get_or, Option, Some, None, refl, sym, ap, ◌∙◌, subst, arith}
-use Rattle.std.specs.Prelude.{Result, Ok, Err, OnOk, OnErr, IfErr, MatchResult}
+use Rattle.std.specs.Prelude.{Result, Ok, Err, IsErr, IsErrAnd}
 use Rattle.std.specs.List.{All}
 use Rattle.std.proofs.lemmas.List.{get_or-map, length-map}
 use Rattle.std.proofs.lemmas.List.Elements.{All-from_recursion, recursion_from_All, All-get_or}
@@ -41,6 +41,14 @@ module _ {K : Type 0} (takes : K → Fit → Type 0) (called : K → Fit → Boo
 
   pub none_handed : (old : K) (why : DescentStop) → why ≡ NoMemory → Ended takes called c i old old why
   none_handed old why e = subst (Ended takes called c i old old) (sym e) ([], refl, record { order = refl; tables = ((λ u j. 0), λ j d below. absurd (omega arith)) })
+
+  -- the error that the code answers is that one
+  pub ends_so : (old new : K) (why : DescentStop) (r : Result (Unit {0}) DescentStop) → IsErr r × IsErrAnd r (λ e. e ≡ why) → Ended takes called c i old new why → HandsOn takes called c i old new r
+  ends_so old new why (Ok u) is ended = absurd is.1
+  ends_so old new why (Err e) is ended = subst (Ended takes called c i old new) (sym is.1) ended
+
+  pub ends_before : (old : K) (r : Result (Unit {0}) DescentStop) → IsErr r × IsErrAnd r (λ e. e ≡ NoMemory) → HandsOn takes called c i old old r
+  ends_before old r is = ends_so old old NoMemory r is (none_handed old NoMemory refl)
 
   pub may_take : (k : ℕ) (shares : List ℕ) (tables : List (List ℕ)) (old now : K) → MayKeep takes called i.schema i.spine old → IsDescent k shares tables old now
       → (fit : Fit) → IsFormed i.schema i.spine fit → takes now fit
@@ -110,6 +118,48 @@ module _ {K : Type 0} (takes : K → Fit → Type 0) (called : K → Fit → Boo
           (d.fits, ends.0, now, d.calls, ends.2, (done_are_first c i tree (k + 1) _ (d.fits ++ ends.0 ∷ []) (omega arith) done).0)
       next_ended after NoMemory ends =
           (d.fits, subst (GoesOn takes called old d.fits) ends d.calls, (done_are_first c i tree k d.x d.fits (omega arith) d.done).0)
+
+    -- ---- the same, where the code has read the units with children
+    module _ (ps : List ℕ) (value : ps ≡ parents_of i.spine) (k : ℕ) (less : k < length ps) (shares : List ℕ) (tables : List (List ℕ)) (old now : K)
+        (d : IsDescent k shares tables old now) where
+      in_parents : k < length (parents_of i.spine)
+      in_parents = subst (λ qs. k < length qs) value less
+
+      abbrev pub read_at : ℕ
+      read_at = get_or ps k 0
+
+      pub read_inner : IsInner i.spine read_at
+      read_inner = subst (λ qs. IsInner i.spine (get_or qs k 0)) (sym value) (next_inner k in_parents shares tables old now d)
+
+      pub read_size : length (get_or tables read_at []) ≡ cell_count i.schema
+      read_size = subst (λ qs. length (get_or tables (get_or qs k 0) []) ≡ cell_count i.schema) (sym value) (next_table k in_parents shares tables old now d).size
+
+      pub read_can_be : CanBe i read_at (table_at c i tables read_at)
+      read_can_be = subst (λ qs. CanBe i (get_or qs k 0) (table_at c i tables (get_or qs k 0))) (sym value) (next_can_be k in_parents shares tables old now d)
+
+      pub read_few : persons_in i.schema (table_at c i tables read_at) ≤ persons_limit
+      read_few = subst (λ qs. persons_in i.schema (table_at c i tables (get_or qs k 0)) ≤ persons_limit) (sym value) (next_few k in_parents shares tables old now d)
+
+      pub read_shares : level_of i.spine read_at ≡ 0 → AreListedShares i.schema i.spine i.known (table_at c i tables read_at) shares
+      read_shares =
+          subst (λ qs. level_of i.spine (get_or qs k 0) ≡ 0 → AreListedShares i.schema i.spine i.known (table_at c i tables (get_or qs k 0)) shares) (sym value)
+          (next_shares k in_parents shares tables old now d)
+
+      pub read_size_of : (P : Option ℕ → Type 0) → All P (fits_of i.spine) → P (Some read_at)
+      read_size_of P all = subst (λ qs. P (Some (get_or qs k 0))) (sym value) (at_next_fit P (parents_of i.spine) k all in_parents)
+
+      pub read_handed : (new : List (List ℕ)) (after : K)
+          → (fit : Fit) × ((family : Tables) × IsSplitOf c i read_at (table_at c i tables read_at) family fit × AreStored i.spine i.schema fit.units.items family tables new) × called now fit true after
+          → length new ≡ length tables → IsDescent (k + 1) shares new old after
+      read_handed new after h count =
+          let split = subst (λ qs. IsSplitOf c i (get_or qs k 0) (table_at c i tables (get_or qs k 0)) h.1.0 h.0) value h.1.1 in
+          next_handed k in_parents shares tables old now d h.0 h.1.0 split new after h.1.2 count h.2
+
+      pub read_ended : (after : K) (why : DescentStop) → Ends called (λ fit. (family : Tables) × IsSplitOf c i read_at (table_at c i tables read_at) family fit) now after why
+          → Ended takes called c i old after why
+      read_ended after why ends =
+          next_ended k in_parents shares tables old now d after why
+          (subst (λ qs. Ends called (λ fit. (family : Tables) × IsSplitOf c i (get_or qs k 0) (table_at c i tables (get_or qs k 0)) family fit) now after why) value ends)
 
     -- ---- all fits
     pub all_handed : (k : ℕ) (shares : List ℕ) (tables : List (List ℕ)) (old now : K) → IsDescent k shares tables old now → length (parents_of i.spine) ≡ k

@@ -99,6 +99,9 @@ module _ (c : Curve) (i : Inputs) (fit : Fit) where
   root_length x shares h =
       ap length h.is_fit.counts ∙ family_length i.schema (λ u. x) (units_of i.spine fit.parent) ∙ ap (λ us. length us * cell_count i.schema) (sym h.is_fit.units)
 
+  pub root_counts_here : (x : Table) (shares : List ℕ) → IsRootOf c i x shares fit → fit.counts.items ≡ family_counts i.schema fit.units.items (λ u. x)
+  root_counts_here x shares h = h.is_fit.counts ∙ ap (λ us. family_counts i.schema us (λ u. x)) (sym h.is_fit.units)
+
   pub root_units : (x : Table) (shares : List ℕ) → IsTree i.spine (nation_of i.spine) → IsRootOf c i x shares fit → All (IsUnit i.spine) fit.units.items
   root_units x shares tree h =
       subst (All (IsUnit i.spine)) (sym (h.is_fit.units ∙ ap (units_of i.spine) h.parent)) (All-from_recursion (IsUnit i.spine) (nation_of i.spine ∷ []) (tree.root, tt))
