@@ -3,7 +3,7 @@ use Rattle.std.proofs.Common.{◌≡◌, ℕ, ◌+◌, ◌*◌, ◌<◌, ◌≤�
 use Rattle.std.specs.List.{All, filter, flat_map, range_with_len, position}
 use Rattle.std.specs.List.{sum_by}
 use Rattle.std.proofs.lemmas.Bool.{cases_lt}
-use Rattle.std.proofs.lemmas.List.{length-map, append-nil, get_or_past}
+use Rattle.std.proofs.lemmas.List.{length-map, get_or_past}
 use Rattle.std.proofs.Math.Nat.{mul-le-mul_right}
 use Rattle.std.proofs.lemmas.List.FromFn.{length-range_with_len}
 use Rattle.tda_model.specs.Schema.{Schema}
@@ -11,7 +11,7 @@ use Rattle.tda_model.specs.Cells.{cell_count}
 use Rattle.std.proofs.lemmas.List.Elements.{All-from_recursion}
 use Rattle.tda_model.specs.Bounds.{persons_limit, MostHolds, HasKinds}
 use Rattle.tda_model.specs.Least.{family_deviation}
-use Rattle.tda_model.specs.First.{counts_of, family_counts}
+use Rattle.tda_model.specs.First.{family_counts}
 use Rattle.tda_model.specs.Release.{Inputs, CanBe, deviation_at}
 use Rattle.tda_model.specs.Sizes.{fit_size, counts_limit}
 use Rattle.tda_model.specs.Spine.{Spine, level_of, nation_of, children_of, unit_numbers, is_child, IsUnit, IsTree}
@@ -40,7 +40,7 @@ use Rattle.tda_io.specs.declared.outside.NoMemory.{NoMemory}
 use Rattle.std.specs.Prelude.{Result, Ok, Err, IfOk}
 use Rattle.tda_descent.specs.Fits.{units_of, level_below, IsLeastAt, IsCertifiedAt}
 use Rattle.tda_descent.specs.Made.{IsMadeOf, IsRootOf, IsSplitOf}
-use Rattle.tda_descent.proofs.Assumed.{root_counts, root_shares, split_counts}
+use Rattle.tda_fitnet.proofs.FlowCounts.{root_counts, root_shares, split_counts}
 use Rattle.tda_descent.proofs.SameGroups.{same_groups}
 use Rattle.tda_descent.proofs.Values.{flow_few}
 
@@ -122,7 +122,7 @@ module _ (c : Curve) (i : Inputs) (tree : IsTree i.spine (nation_of i.spine)) (h
       let deep : 0 < length i.schema.levels = omega (arith, tree.deep, belong.depth) in
       let solved = solved_root i tree has most fews t is deep sound c flow prices circulates made.certified in
       let arcs : arc_count (root_network i t.groups) ≡ (fit_size i.schema i.spine None).arcs = length-map _ (λ a. a.arc) ∙ layout.arcs ∙ root_arc_count i t deep is in
-      let counts_are : fit.counts.items ≡ counts_of i.schema solved.0 = counts ∙ root_counts i t.groups solved.0 solved.1 flow solved.2.flow_is solved.2.least.can_be in
+      let counts_are : fit.counts.items ≡ family_counts i.schema (nation_of i.spine ∷ []) (λ u. solved.0) = counts ∙ root_counts i t.groups solved.0 solved.1 flow solved.2.flow_is solved.2.least.can_be in
       let x : Tables = λ u. solved.0 in
       let here : units_of i.spine fit.parent ≡ nation ∷ [] = ap (units_of i.spine) parent in (
         solved.0,
@@ -130,7 +130,7 @@ module _ (c : Curve) (i : Inputs) (tree : IsTree i.spine (nation_of i.spine)) (h
           parent = parent;
           is_fit = record {
             units = units ∙ sym here;
-            counts = counts_are ∙ sym (append-nil (counts_of i.schema solved.0)) ∙ ap (λ us. family_counts i.schema us x) (sym here);
+            counts = counts_are ∙ ap (λ us. family_counts i.schema us x) (sym here);
             few = subst (All (λ n. n ≤ persons_limit)) (sym counts) (counts_few (root_fit i t.groups) flow (flows_few (root_network i t.groups) flow sound circulates));
             least = subst (IsLeastAt c i x) (sym parent) solved.2.least;
             certified = subst (λ o. (u : Tree) → IsTreeOf i.schema (level_at i.schema (level_below i.spine o)) u → IsCertifiedAt c i u.groups x o fit.prices.items) (sym parent)

@@ -13,7 +13,7 @@ ghost use Rattle.tda_fitnet.specs.Fits.{AreListedShares};
 ghost use Rattle.tda_fitnet.specs.FitNetwork.{net_at, IsRootFit, IsSplitFit, flow_counts, flow_shares};
 
 use std::alloc::Global;
-use tda_fitnet::FitNet;
+use tda_fitnet::{FitNet, root_start, split_start, to_counts, to_shares};
 use tda_invar::Invariants;
 use tda_io::NoMemory;
 use tda_schema::Schema;
@@ -32,12 +32,9 @@ pub(crate) fn root_flow(
     requires fit { IsRootFit schema.now spine.now inv.now fit.now }
     ensures { IfOk result (λ flow. IsCirculation (net_at fit.now) flow.items) }
 {
-    let _ = alloc;
-    let _ = fit;
-    let _ = schema;
-    let _ = spine;
-    let _ = inv;
-    Err(NoMemory)
+    let mut flow = vec![in alloc; 0; fit.net().arcs()]?;
+    root_start(fit, schema, spine, inv, &mut flow);
+    Ok(flow)
 }
 
 // A circulation of the network of the split of a unit's table.
@@ -61,15 +58,9 @@ pub(crate) fn split_flow(
     requires shares { level_of spine.now parent ≡ 0 → AreListedShares schema.now spine.now (known_of spine.now inv.now) (slice_index table.now) shares.now }
     ensures { IfOk result (λ flow. IsCirculation (net_at fit.now) flow.items) }
 {
-    let _ = alloc;
-    let _ = fit;
-    let _ = schema;
-    let _ = spine;
-    let _ = inv;
-    let _ = parent;
-    let _ = table;
-    let _ = shares;
-    Err(NoMemory)
+    let mut flow = vec![in alloc; 0; fit.net().arcs()]?;
+    split_start(fit, schema, spine, inv, parent, table, shares, &mut flow);
+    Ok(flow)
 }
 
 // The counts of all units of a fit, so many in all.
@@ -83,11 +74,9 @@ pub(crate) fn flow_counts(
     requires len { len ≡ fit.now.layout.units * fit.now.all_cells }
     ensures { IfOk result (λ counts. counts.items ≡ flow_counts fit.now flow.now) }
 {
-    let _ = alloc;
-    let _ = fit;
-    let _ = flow;
-    let _ = len;
-    Err(NoMemory)
+    let mut counts = vec![in alloc; 0; len]?;
+    to_counts(fit, flow, &mut counts);
+    Ok(counts)
 }
 
 // The shares of all states and kinds, so many in all.
@@ -101,9 +90,7 @@ pub(crate) fn flow_shares(
     requires len { len ≡ fit.now.layout.states * fit.now.layout.kinds }
     ensures { IfOk result (λ shares. shares.items ≡ flow_shares fit.now flow.now) }
 {
-    let _ = alloc;
-    let _ = fit;
-    let _ = flow;
-    let _ = len;
-    Err(NoMemory)
+    let mut shares = vec![in alloc; 0; len]?;
+    to_shares(fit, flow, &mut shares);
+    Ok(shares)
 }
