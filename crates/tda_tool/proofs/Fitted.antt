@@ -5,12 +5,13 @@ use Rattle.tda_io.specs.Due.{◌>>=◌}
 use Rattle.tda_io.specs.Outside.{Shelf, asks}
 use Rattle.tda_invar.specs.Known.{JoinedLists}
 use Rattle.tda_tool.specs.Attained.{Inputs}
-use Rattle.tda_tool.specs.Words.{command_of, form_of, form_in, source_of}
+use Rattle.tda_command.specs.Words.{command_of, form_of, form_in, source_of}
 use Rattle.tda_tool.specs.Ending.{Ending}
 use Rattle.tda_tool.specs.Due.{Given, base_from, totals_from, inputs_from}
-use Rattle.tda_tool.specs.Reading.{name_of, place_of_file, path_of, IsRead, GivesInvariants, AsksFile, Gathers, AsksFiles}
+use Rattle.tda_tool.specs.Files.{name_of, place_of_file, IsRead}
+use Rattle.tda_tool.specs.Reading.{path_of, GivesInvariants, AsksFile, Gathers, AsksFiles}
 use Rattle.tda_tool.specs.declared.base.Base.{Base}
-use Rattle.tda_tool.specs.declared.words.Command.{Command}
+use Rattle.tda_command.specs.declared.words.Command.{Command}
 use Rattle.tda_tool.specs.declared.reading.File.{File}
 use Rattle.tda_tool.specs.declared.reading.File.TheVariants as file
 use Rattle.tda_tool.specs.declared.reading.Stop.{Stop}

@@ -1,4 +1,3 @@
-pub mod Values
 pub mod Asked
 pub mod Judged
 pub mod Stops

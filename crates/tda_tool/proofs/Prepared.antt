@@ -6,14 +6,15 @@ use Rattle.tda_io.specs.declared.outside.NoMemory.{NoMemory}
 use Rattle.tda_measure.specs.Noise.{variances_of, IsNoise, IsDetermined}
 use Rattle.tda_tool.specs.Attained.{Inputs}
 use Rattle.tda_tool.specs.Measuring.{Survey}
-use Rattle.tda_tool.specs.Words.{command_of, form_in, reads_of, pairs_after, values_in}
+use Rattle.tda_command.specs.Words.{command_of, form_in, reads_of, pairs_after, values_in}
 use Rattle.tda_tool.specs.Ending.{Ending}
 use Rattle.tda_tool.specs.Due.{Given, given_by, failing_at, inputs_from, survey_from, task_by, due_task}
 use Rattle.tda_tool.specs.Outcome.{AsksPrefix, asks_all}
-use Rattle.tda_tool.specs.Reading.{place_of_file, Gathers, AsksFiles, CountsRead, Surveys, IsCounted, noise_words}
+use Rattle.tda_tool.specs.Files.{place_of_file}
+use Rattle.tda_tool.specs.Reading.{Gathers, AsksFiles, CountsRead, Surveys, IsCounted, noise_words}
 use Rattle.tda_tool.specs.Answer.{Suits, SuitsBy, AnswersStop, AnswersBy, AnswersNoise, AsksBy, AsksPrepared, CountsBy, CountsPrepared, IsFitted, HasSurvey, StopsWith}
-use Rattle.tda_tool.specs.declared.words.Command.{Command}
-use Rattle.tda_tool.specs.declared.words.Command.TheVariants as command
+use Rattle.tda_command.specs.declared.words.Command.{Command}
+use Rattle.tda_command.specs.declared.words.Command.TheVariants as command
 use Rattle.tda_tool.specs.declared.reading.Stop.{Stop}
 use Rattle.tda_tool.specs.declared.reading.Stop.TheVariants as stop
 use Rattle.tda_tool.specs.declared.counted.Counted.{Counted}
@@ -45,7 +46,7 @@ module _ {X : Type 0} (words : List (List ℕ)) (n : ℕ) (from : Given → Resu
   stop_suits shelf (stop.Refused r) a gives answers = subst (λ k. SuitsBy k words shelf a) (sym answers.0) (record {
     reads = gives.0;
     fault = r.fault.items;
-    of_fault = gives.1;
+    of_file = gives.1;
     due = refuses shelf _ gives.2;
     alone = answers.1;
   })

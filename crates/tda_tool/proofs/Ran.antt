@@ -15,14 +15,14 @@ use Rattle.tda_measure.specs.Noise.{variances_of, IsNoise, IsDetermined}
 use Rattle.tda_measure.specs.declared.stop.MeasureStop.{MeasureStop}
 use Rattle.tda_tool.specs.Attained.{Inputs}
 use Rattle.tda_tool.specs.Measuring.{Survey, state_counts, noise_ending, stop_ending, measured_ending, MeasureEnds}
-use Rattle.tda_tool.specs.Words.{command_of, form_in, reads_of, writes_of, read_names, write_names, pairs_after, values_in, dash}
+use Rattle.tda_command.specs.Words.{command_of, form_in, reads_of, writes_of, read_names, write_names, pairs_after, values_in, dash}
 use Rattle.tda_tool.specs.Ending.{Ending, words_ending, refused_ending, read_ending, fit_ending}
 use Rattle.tda_tool.specs.Due.{Given, Task, Fits, Measures, EndsBy, Due, IsDue, IsDueStatus, task_of, task_by, due_task, inputs_from, survey_from, given_by, failing_at}
 use Rattle.tda_tool.specs.Outcome.{IsSettled, whole, asks_all, Leaves, LeavesReport, LeavesAll, ReportsDue, FitWrote, MeasureWrote, NoiseStopped, FileRefused, ReadFailed, AsksPrefix, BeginsPrefix, BeginsWhenDue}
-use Rattle.tda_tool.specs.Reading.{name_of, place_of_file, IsRead}
+use Rattle.tda_tool.specs.Files.{name_of, place_of_file, IsRead}
 use Rattle.tda_tool.specs.Answer.{status_by, Suits, SuitsBy, IsDone, HasInputs, HasSurvey, IsFitted, IsMeasured, StopsWith, RefusesFile, FailsAt, ReportsAlone, WritesNames, Asks, AsksBy, CountsBy, files_of, target_of, targets_of, status_of}
-use Rattle.tda_tool.specs.declared.words.Command.{Command}
-use Rattle.tda_tool.specs.declared.words.Command.TheVariants as command
+use Rattle.tda_command.specs.declared.words.Command.{Command}
+use Rattle.tda_command.specs.declared.words.Command.TheVariants as command
 use Rattle.tda_tool.specs.declared.reading.File.{File}
 use Rattle.tda_tool.specs.declared.answer.Answer.{Answer}
 use Rattle.tda_tool.specs.declared.answer.Cause.{Cause}
@@ -216,6 +216,7 @@ wrote_measured words s a old new v has made left = record {
   measurements = made.measurements;
   taken = made.taken;
   measured = made.measured;
+  within = made.tells.within;
   written = subst (λ paths. Leaves
       (whole (slice_index_or paths 0 []) (measurements_text v.schema v.spine made.measurements)
       ∷ whole (slice_index_or paths 1 []) (totals_text v.spine (state_counts v.spine v.records))
@@ -292,19 +293,16 @@ all_written words shelf (Err fault_out.NoMemory) old new suits left zero = cc ze
 
 -- ---- which words, which file, which place
 
-name_at : (words : List (List ℕ)) (f : File) → IsRead words f → slice_index_or (read_names words) (place_of_file f) [] ≡ name_of f
-name_at words f is = get_or_from_slice_get (read_names words) (place_of_file f) (name_of f) [] is
-
 refused_file : (words : List (List ℕ)) (f : File) (shelf shelf_new : Option Shelf) (a : Answer) (old new : Option Tray) → RefusesFile words shelf f a → AsksBy (cause.Refused f) words shelf shelf_new
     → Leaves (files_of words a) old new → FileRefused words shelf shelf_new old new
 refused_file words f shelf shelf_new a old new suits asked left = record {
-  file = place_of_file f;
-  within = file_within words f suits.reads;
+  file = f;
+  reads = suits.reads;
   asked = asked;
   fault = suits.fault;
-  of_fault = suits.of_fault;
-  refused = subst (λ name. IfSome shelf (λ s. due_task words s.holds ≡ Err (refused_ending name suits.fault))) (sym (name_at words f suits.reads)) suits.due;
-  written = subst (λ name. LeavesReport (refused_ending name suits.fault).report old new) (sym (name_at words f suits.reads)) (report_alone words _ a old new suits.alone left);
+  of_file = suits.of_file;
+  refused = suits.due;
+  written = report_alone words _ a old new suits.alone left;
 }
 
 refused_by : (k : Cause) (words : List (List ℕ)) (shelf shelf_new : Option Shelf) (a : Answer) (old new : Option Tray) → SuitsBy k words shelf a → AsksBy k words shelf shelf_new
@@ -325,11 +323,11 @@ refused words (Err fault_out.NoMemory) shelf shelf_new old new suits asked left 
 read_file : (words : List (List ℕ)) (f : File) (shelf shelf_new : Option Shelf) (a : Answer) (old new : Option Tray) → FailsAt words shelf f a → AsksBy (cause.Read f) words shelf shelf_new
     → Leaves (files_of words a) old new → ReadFailed words shelf shelf_new old new
 read_file words f shelf shelf_new a old new suits asked left = record {
-  file = place_of_file f;
-  within = file_within words f suits.reads;
+  file = f;
+  reads = suits.reads;
   asked = asked;
-  accepted = subst (λ name. IfSome shelf (λ s. task_by words (failing_at (place_of_file f) (given_by words s.holds)) ≡ Err (read_ending name))) (sym (name_at words f suits.reads)) suits.due;
-  written = subst (λ name. LeavesReport (read_ending name).report old new) (sym (name_at words f suits.reads)) (report_alone words _ a old new suits.alone left);
+  accepted = suits.due;
+  written = report_alone words _ a old new suits.alone left;
 }
 
 failed_by : (k : Cause) (words : List (List ℕ)) (shelf shelf_new : Option Shelf) (a : Answer) (old new : Option Tray) → SuitsBy k words shelf a → AsksBy k words shelf shelf_new

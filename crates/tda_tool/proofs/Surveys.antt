@@ -10,17 +10,18 @@ use Rattle.tda_hist.specs.TrueTable.{true_count}
 use Rattle.tda_hist.specs.Agreement.{agree_due}
 use Rattle.tda_hist.specs.declared.fault.HistFault.{HistFault}
 use Rattle.tda_tool.specs.Measuring.{Survey, noise_from}
-use Rattle.tda_tool.specs.Words.{command_of, measure_form, source_of}
+use Rattle.tda_command.specs.Words.{command_of, measure_form, source_of}
 use Rattle.tda_tool.specs.Ending.{Ending, judged_file}
 use Rattle.tda_tool.specs.Due.{Given, base_from, records_from, survey_from}
-use Rattle.tda_tool.specs.Refusal.{records_text, hist_text}
-use Rattle.tda_tool.specs.Reading.{name_of, place_of_file, path_of, IsRead, GivesBy, GivesFile, GivesTables, GivesNoise, Judges, AreTrueCounts, AsksFile, Gathers, AsksFiles, noise_words, source_path, IsCounted, Surveys}
+use Rattle.tda_refusal.specs.Refusal.{records_text, hist_text}
+use Rattle.tda_tool.specs.Files.{name_of, place_of_file, IsRead}
+use Rattle.tda_tool.specs.Reading.{path_of, GivesBy, GivesFile, GivesTables, GivesNoise, Judges, AreTrueCounts, AsksFile, Gathers, AsksFiles, noise_words, source_path, IsCounted, Surveys}
 use Rattle.tda_tool.specs.declared.base.Base.{Base}
 use Rattle.tda_tool.specs.declared.counted.Counted.{Counted}
 use Rattle.tda_tool.specs.declared.noise.Noise.{Noise}
-use Rattle.tda_tool.specs.declared.words.Command.TheVariants.{Measure}
-use Rattle.tda_tool.specs.declared.words.Source.{Source}
-use Rattle.tda_tool.specs.declared.words.Source.TheVariants as source
+use Rattle.tda_command.specs.declared.words.Command.TheVariants.{Measure}
+use Rattle.tda_command.specs.declared.words.Source.{Source}
+use Rattle.tda_command.specs.declared.words.Source.TheVariants as source
 use Rattle.tda_tool.specs.declared.reading.File.TheVariants as file
 use Rattle.tda_tool.specs.declared.reading.Stop.{Stop}
 use Rattle.tda_tool.proofs.Asked.{file_within}

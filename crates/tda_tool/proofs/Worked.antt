@@ -3,18 +3,18 @@ use Rattle.std.proofs.Common.{◌≡◌, [], ◌∷◌, ◌++◌, List, ℕ, ref
 use Rattle.std.specs.Fmt.{digits}
 use Rattle.tda_model.specs.Schema.{Schema}
 use Rattle.tda_model.specs.Spine.{Spine}
-use Rattle.tda_tool.specs.Words.{command_of, value_of, reads_of, writes_of}
+use Rattle.tda_command.specs.Words.{command_of, value_of, reads_of, writes_of}
 use Rattle.tda_tool.specs.Ending.{words_ending, read_ending}
 use Rattle.tda_tool.specs.Due.{due_task}
-use Rattle.tda_tool.specs.Refusal.{plain_text, named_text}
-use Rattle.tda_tool.specs.declared.refusal.Plain.TheVariants as plain
-use Rattle.tda_tool.specs.declared.refusal.Named.TheVariants as named
+use Rattle.tda_refusal.specs.Refusal.{plain_text, named_text}
+use Rattle.tda_refusal.specs.declared.text.Plain.TheVariants as plain
+use Rattle.tda_refusal.specs.declared.text.Named.TheVariants as named
 use Rattle.tda_spine.specs.declared.fault.SpineFault.TheVariants as spine_fault
 use Rattle.tda_invar.specs.declared.fac_fault.FacFault.TheVariants as facility_fault
 use Rattle.tda_invar.specs.declared.tot_fault.TotFault.TheVariants as total_fault
 use Rattle.tda_invar.specs.declared.join_fault.JoinFault.TheVariants as join_fault
 use Rattle.tda_hist.specs.declared.fault.HistFault.TheVariants as hist_fault
-use Rattle.tda_tool.specs.declared.words.Command.TheVariants.{Fit, Measure}
+use Rattle.tda_command.specs.declared.words.Command.TheVariants.{Fit, Measure}
 
 abbrev pair : List ℕ → List ℕ → List (List ℕ)
 pair name value = name ∷ value ∷ []

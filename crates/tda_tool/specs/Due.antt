@@ -12,12 +12,12 @@ use Rattle.tda_hist.specs.TrueTable.{true_count}
 use Rattle.tda_hist.specs.Agreement.{agree_due}
 use Rattle.tda_tool.specs.Attained.{Inputs}
 use Rattle.tda_tool.specs.Measuring.{Survey, noise_from, MeasureEnds}
-use Rattle.tda_tool.specs.Words.{command_of, reads_of, source_of}
+use Rattle.tda_command.specs.Words.{command_of, reads_of, source_of}
 use Rattle.tda_tool.specs.Ending.{Ending, words_ending, fit_ending, or_refused, judged_file}
-use Rattle.tda_tool.specs.Refusal.{schema_text, spine_text, facilities_text, totals_text, join_text, records_text, hist_text}
+use Rattle.tda_refusal.specs.Refusal.{schema_text, spine_text, facilities_text, totals_text, join_text, records_text, hist_text}
 use Rattle.tda_tool.specs.declared.base.Base.{Base}
-use Rattle.tda_tool.specs.declared.words.Command.{Command}
-use Rattle.tda_tool.specs.declared.words.Command.TheVariants as command
+use Rattle.tda_command.specs.declared.words.Command.{Command}
+use Rattle.tda_command.specs.declared.words.Command.TheVariants as command
 
 -- what the reads of a command's files gave, by number: a read that failed gave nothing
 abbrev pub Given : Type 0

@@ -3,8 +3,8 @@ use Rattle.std.specs.Prelude.{ℕ, ℤ, ◌^◌, if◌then◌else◌, codes, Lis
 use Rattle.std.specs.Fmt.{decimal, signed_decimal}
 use Rattle.tda_frac.specs.Fraction.{Fraction, text_of}
 use Rattle.tda_model.specs.Spine.{Spine, fit_count}
-use Rattle.tda_tool.specs.Refusal.{plain_text}
-use Rattle.tda_tool.specs.declared.refusal.Plain.TheVariants.{TooLong}
+use Rattle.tda_refusal.specs.Refusal.{plain_text}
+use Rattle.tda_refusal.specs.declared.text.Plain.TheVariants.{TooLong}
 
 -- a status and a report
 pub record Ending : Type 0 where

@@ -1,8 +1,7 @@
-pub mod Words
 pub mod Attained
 pub mod Plain
-pub mod Refusal
 pub mod Ending
+pub mod Files
 pub mod Measuring
 pub mod Due
 pub mod Outcome

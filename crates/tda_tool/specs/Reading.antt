@@ -16,51 +16,23 @@ use Rattle.tda_hist.specs.TrueTable.{lives_in, true_count, state_persons}
 use Rattle.tda_words.specs.Words.{words_of, stream_words}
 use Rattle.tda_measure.specs.Measured.{HaveFewPersons}
 use Rattle.tda_tool.specs.Measuring.{Survey}
-use Rattle.tda_tool.specs.Words.{reads_of, read_names}
+use Rattle.tda_command.specs.Words.{reads_of, read_names}
 use Rattle.tda_tool.specs.Ending.{Ending, file_limit, seed_length, or_refused, judged_within, read_ending, refused_ending}
 use Rattle.tda_tool.specs.Due.{Given, given_by, failing_at, totals_from, records_from, survey_from}
 use Rattle.tda_tool.specs.Outcome.{AsksPrefix, asks_all}
-use Rattle.tda_tool.specs.Refusal.{IsFaultText, plain_text, join_text}
+use Rattle.tda_refusal.specs.Refusal.{plain_text, join_text}
+use Rattle.tda_tool.specs.Files.{name_of, place_of_file, limit_of, IsRead, IsFaultOf}
 use Rattle.tda_tool.specs.declared.base.Base.{Base}
-use Rattle.tda_tool.specs.declared.words.Source.{Source}
-use Rattle.tda_tool.specs.declared.words.Source.TheVariants as source
+use Rattle.tda_command.specs.declared.words.Source.{Source}
+use Rattle.tda_command.specs.declared.words.Source.TheVariants as source
 use Rattle.tda_tool.specs.declared.reading.File.{File}
 use Rattle.tda_tool.specs.declared.reading.File.TheVariants as file
-use Rattle.tda_tool.specs.declared.refusal.Plain.TheVariants.{TooLong}
+use Rattle.tda_refusal.specs.declared.text.Plain.TheVariants.{TooLong}
 use Rattle.tda_tool.specs.declared.reading.Stop.{Stop}
 use Rattle.tda_tool.specs.declared.reading.Stop.TheVariants as stop
 use Rattle.tda_tool.specs.declared.noise.Noise.{Noise}
 use Rattle.tda_tool.specs.declared.noise.Noise.TheVariants as noise
 use Rattle.tda_tool.specs.declared.counted.Counted.{Counted}
-
--- the name of a file in the command
-abbrev pub name_of : File → List ℕ
-name_of file.Schema = codes "schema"
-name_of file.Spine = codes "spine"
-name_of file.Facilities = codes "facilities"
-name_of file.Totals = codes "totals"
-name_of file.Records = codes "records"
-name_of file.Words = codes "words"
-name_of file.Seed = codes "seed"
-
--- its place among the files that are read
-abbrev pub place_of_file : File → ℕ
-place_of_file file.Schema = 0
-place_of_file file.Spine = 1
-place_of_file file.Facilities = 2
-place_of_file file.Totals = 3
-place_of_file file.Records = 3
-place_of_file file.Words = 4
-place_of_file file.Seed = 4
-
--- how many bytes it may have
-abbrev pub limit_of : File → ℕ
-limit_of file.Seed = seed_length
-limit_of _ = file_limit
-
--- the words' command reads the file, at its place
-abbrev pub IsRead : List (List ℕ) → File → Type 0
-IsRead words f = slice_get (read_names words) (place_of_file f) ≡ Some (name_of f)
 
 -- where the command finds it
 abbrev pub path_of : List (List ℕ) → File → List ℕ
@@ -77,7 +49,7 @@ IsRefused f text stop.NoMemory = Unit {0}
 
 -- a reader's fault stops the reading: the file is refused with the text of the fault, or memory ran out
 abbrev pub IsStop : {F : Type 0} → F → File → (F → List ℕ) → F → Stop → Type 0
-IsStop no_memory f text e (stop.Refused r) = (e ≢ no_memory) × (r.file ≡ f) × (r.fault.items ≡ text e) × IsFaultText r.fault.items
+IsStop no_memory f text e (stop.Refused r) = (e ≢ no_memory) × (r.file ≡ f) × (r.fault.items ≡ text e) × IsFaultOf f r.fault.items
 IsStop no_memory f text e (stop.Read g) = ⊥
 IsStop no_memory f text e stop.NoMemory = Unit {0}
 
@@ -91,7 +63,7 @@ GivesBytes words f shelf (Err stop.NoMemory) = Unit {0}
 -- what the file is judged to be, where it is accepted
 abbrev pub GivesBy : {A : Type 0} → List (List ℕ) → File → (Option (List ℕ) → Result A Ending) → Option Shelf → Result A Stop → Type 0
 GivesBy words f from shelf (Ok x) = IfSome shelf (λ s. from (s.holds (path_of words f)) ≡ Ok x)
-GivesBy words f from shelf (Err (stop.Refused r)) = (r.file ≡ f) × IsFaultText r.fault.items
+GivesBy words f from shelf (Err (stop.Refused r)) = (r.file ≡ f) × IsFaultOf f r.fault.items
     × IfSome shelf (λ s. from (s.holds (path_of words f)) ≡ Err (refused_ending (name_of f) r.fault.items))
 GivesBy words f from shelf (Err (stop.Read g)) = g ≡ f
 GivesBy words f from shelf (Err stop.NoMemory) = Unit {0}
@@ -103,7 +75,7 @@ GivesFile words f text read shelf r = GivesBy words f (judged_within (limit_of f
 -- a file is judged once more, beside others
 abbrev pub Judges : {X F : Type 0} → File → (F → List ℕ) → Result (Unit {0}) F → Result X Stop → Type 0
 Judges f text due (Ok x) = or_refused (name_of f) text due ≡ Ok tt
-Judges f text due (Err (stop.Refused r)) = (r.file ≡ f) × IsFaultText r.fault.items × (or_refused (name_of f) text due ≡ Err (refused_ending (name_of f) r.fault.items))
+Judges f text due (Err (stop.Refused r)) = (r.file ≡ f) × IsFaultOf f r.fault.items × (or_refused (name_of f) text due ≡ Err (refused_ending (name_of f) r.fault.items))
 Judges f text due (Err (stop.Read g)) = ⊥
 Judges f text due (Err stop.NoMemory) = Unit {0}
 
@@ -138,7 +110,7 @@ Agree words s n given = (m : ℕ) → m < n → given m ≡ given_by words s.hol
 -- what the first n files come to, or the first file that stops
 abbrev pub Gathers : {X : Type 0} → List (List ℕ) → ℕ → (Given → Result X Ending) → Option Shelf → Result X Stop → Type 0
 Gathers words n from shelf (Ok x) = IfSome shelf (λ s. (given : Given) → Agree words s n given → from given ≡ Ok x)
-Gathers words n from shelf (Err (stop.Refused r)) = IsRead words r.file × IsFaultText r.fault.items
+Gathers words n from shelf (Err (stop.Refused r)) = IsRead words r.file × IsFaultOf r.file r.fault.items
     × IfSome shelf (λ s. from (given_by words s.holds) ≡ Err (refused_ending (name_of r.file) r.fault.items))
 Gathers words n from shelf (Err (stop.Read f)) = IsRead words f
     × IfSome shelf (λ s. from (failing_at (place_of_file f) (given_by words s.holds)) ≡ Err (read_ending (name_of f)))

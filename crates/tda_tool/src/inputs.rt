@@ -9,18 +9,19 @@ ghost use Rattle.tda_invar.specs.Totals.{AreTotalsOf};
 ghost use Rattle.tda_invar.specs.Known.{known, join_due, unit_total, IsJoined};
 ghost use Rattle.tda_tool.specs.Attained.{known_of, AreSound};
 ghost use Rattle.tda_tool.specs.Due.{inputs_from};
-ghost use Rattle.tda_tool.specs.Words.{command_of};
-ghost use Rattle.tda_tool.specs.Refusal.{totals_text, join_text, NamesKnown};
-ghost use Rattle.tda_tool.specs.Reading.{IsRead, IsStop, GivesFile, GivesJoined, GivesInvariants, AsksFile, CountsRead, Gathers, AsksFiles};
+ghost use Rattle.tda_command.specs.Words.{command_of};
+ghost use Rattle.tda_refusal.specs.Refusal.{totals_text, join_text, NamesKnown};
+ghost use Rattle.tda_tool.specs.Files.{IsRead};
+ghost use Rattle.tda_tool.specs.Reading.{IsStop, GivesFile, GivesJoined, GivesInvariants, AsksFile, CountsRead, Gathers, AsksFiles};
 
 use crate::base::{Base, read_base};
 use crate::reading::{File, Stop, read_bytes, refused_beside};
-use crate::refusal::Named;
-use crate::words::Command;
 use std::alloc::Global;
 use std::marker::Model;
+use tda_command::Command;
 use tda_invar::{Facilities, Invariants, JoinFault, TotFault, Totals, join, read_totals};
 use tda_io::Inbox;
+use tda_refusal::Named;
 use tda_schema::Schema;
 use tda_spine::Spine;
 

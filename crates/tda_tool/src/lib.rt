@@ -17,7 +17,6 @@ mod reading;
 mod refusal;
 mod tables;
 mod top;
-mod words;
 
 pub use top::tool;
 

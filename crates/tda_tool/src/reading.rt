@@ -1,12 +1,14 @@
 // The files of a command, and what stops their reading.
 ghost use Rattle.std.specs.Prelude.{◌≡◌, ◌-◌, ◌^◌, ◌<◌, ◌≤◌, IfOk, map, length, string_bytes};
-ghost use Rattle.tda_tool.specs.Refusal.{plain_text, named_text, NamesKnown};
-ghost use Rattle.tda_tool.specs.Reading.{path_of, limit_of, IsRead, IsRefused, GivesBytes, AsksFile, CountsRead};
+ghost use Rattle.tda_refusal.specs.Refusal.{plain_text, named_text, NamesKnown};
+ghost use Rattle.tda_tool.specs.Files.{limit_of, IsRead};
+ghost use Rattle.tda_tool.specs.Reading.{path_of, IsRefused, GivesBytes, AsksFile, CountsRead};
 
-use crate::refusal::{Named, Plain, Refusal, push_named, push_plain};
-use crate::words::value_named;
+use crate::refusal::Refusal;
 use std::alloc::Global;
+use tda_command::value_named;
 use tda_io::{InFault, Inbox};
+use tda_refusal::{Named, Plain, push_named, push_plain};
 use tda_schema::Schema;
 use tda_spine::Spine;
 
@@ -30,7 +32,7 @@ pub(crate) enum File {
 
 impl File {
     ghost use Rattle.std.specs.Prelude.{◌≡◌, ◌≤◌, ◌^◌};
-    ghost use Rattle.tda_tool.specs.Reading.{name_of, limit_of};
+    ghost use Rattle.tda_tool.specs.Files.{name_of, limit_of};
 
     /// Its name in the command.
     pub(crate) fn name(self) -> &'static str

@@ -1,7 +1,7 @@
 // The top call.
 ghost use Rattle.std.specs.Prelude.{◌≡◌, ◌≢◌, ◌⊎◌, ◌↔◌, ◌-◌, ◌^◌, ◌<◌, ◌≤◌, map, string_bytes, option_map, IfOk, IfSome, IsTrue, Some, None};
 ghost use Rattle.tda_io.specs.Outside.{CountsOut};
-ghost use Rattle.tda_tool.specs.Words.{command_of, reads_of, writes_of};
+ghost use Rattle.tda_command.specs.Words.{command_of, reads_of, writes_of};
 ghost use Rattle.tda_tool.specs.Ending.{words_ending};
 ghost use Rattle.tda_tool.specs.Due.{IsDueStatus};
 ghost use Rattle.tda_tool.specs.Outcome.{is_status, IsSettled, IsEmpty, Leaves, LeavesReport, LeavesAll, ReportsDue, FitWrote, MeasureWrote, NoiseStopped, FileRefused, ReadFailed, AsksPrefix, asks_all, BeginsPrefix, BeginsWhenDue};
@@ -10,7 +10,6 @@ ghost use Rattle.tda_tool.specs.Answer.{Suits, Asks, files_of, CountsRun, status
 use crate::answer::Answer;
 use crate::prepare::prepare;
 use crate::publish::{publish, tell_memory};
-use crate::words::Command;
 use std::alloc::Global;
 use tda_io::{Inbox, NoMemory, OutFault, Outbox};
 

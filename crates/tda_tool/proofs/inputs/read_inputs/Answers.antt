@@ -1,5 +1,5 @@
 use Rattle.std.proofs.Common.{map, string_bytes, refl, rules}
-use Rattle.tda_tool.specs.declared.words.Command.TheVariants.{Fit}
+use Rattle.tda_command.specs.declared.words.Command.TheVariants.{Fit}
 use Rattle.tda_tool.specs.declared.reading.File.TheVariants as file
 use Rattle.tda_tool.proofs.Fitted.{reads_at, invariants_halt, all_read}
 use Rattle.tda_tool.proofs.inputs.read_inputs.Goals as goal

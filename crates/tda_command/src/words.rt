@@ -2,13 +2,13 @@
 ghost use Rattle.std.specs.Prelude.{◌≡◌, map, count_by, option_map, string_bytes};
 ghost use Rattle.std.specs.Str.{bytes_eq};
 ghost use Rattle.std.specs.List.{list_all};
-ghost use Rattle.tda_tool.specs.Words.{pairs_of, pairs_after, value_in, times_in, dashed, form_of, source_in, source_of, stand_once, has_names, value_or_empty, values_in, is_filled, is_free, number_name, number_named, number_in, has_number, number_of, has_values, has_form, command_of, value_of};
+ghost use Rattle.tda_command.specs.Words.{pairs_of, pairs_after, value_in, times_in, dashed, form_of, source_in, source_of, stand_once, has_names, value_or_empty, values_in, is_filled, is_free, number_name, number_named, number_in, has_number, number_of, has_values, has_form, command_of, value_of};
 
 use tda_io::read_int;
 
 /// What the program is asked to do.
 #[derive(Clone, Copy, Debug, PartialEq, Eq)]
-pub(crate) enum Command {
+pub enum Command {
     /// Measurements, totals and a ledger from records and words.
     Measure,
     /// Tables from given facilities and totals.
@@ -17,7 +17,7 @@ pub(crate) enum Command {
 
 /// Where the words of the noise come from.
 #[derive(Clone, Copy, Debug, PartialEq, Eq)]
-pub(crate) enum Source {
+pub enum Source {
     /// A file of words.
     Words,
     /// A seed, with a place of its stream and a budget.
@@ -26,7 +26,7 @@ pub(crate) enum Source {
 
 /// A number among the values.
 #[derive(Clone, Copy, Debug, PartialEq, Eq)]
-pub(crate) enum Number {
+pub enum Number {
     /// The place of a seed's first word.
     Place,
     /// How many words of a seed there are.
@@ -35,7 +35,7 @@ pub(crate) enum Number {
 
 impl Number {
     ghost use Rattle.std.specs.Prelude.{◌≡◌};
-    ghost use Rattle.tda_tool.specs.Words.{number_name, limits_of};
+    ghost use Rattle.tda_command.specs.Words.{number_name, limits_of};
 
     fn name(self) -> &'static str
         ensures { result.now ≡ number_name self }
@@ -59,8 +59,8 @@ impl Number {
 
 impl Command {
     ghost use Rattle.std.specs.Prelude.{◌≡◌, map};
-    ghost use Rattle.tda_tool.specs.Words.{form_of};
-    ghost use Rattle.tda_tool.specs.declared.words.Source.{Source};
+    ghost use Rattle.tda_command.specs.Words.{form_of};
+    ghost use Rattle.tda_command.specs.declared.words.Source.{Source};
 
     // The word that names it.
     fn word(self) -> &'static str
@@ -285,7 +285,7 @@ fn has_form(command: Command, words: &[String]) -> bool
 /// noise come from a file, its name stands, and else a seed's with a place and a budget. The values are names of files, of
 /// which none is empty, and a written one is neither `-` nor equal to another one; and numbers in canonical decimals, a
 /// place of a u64 and a budget of at most 2^32. None where the words are no command.
-pub(crate) fn judge(words: &[String]) -> Option<Command>
+pub fn judge(words: &[String]) -> Option<Command>
     ensures { result ≡ command_of (map string_bytes words.now) }
 {
     if has_form(Command::Fit, words) {
@@ -308,28 +308,28 @@ fn pairs_after(words: &[String]) -> &[String]
 }
 
 /// The value of the pair that has this name, which is given without its two dashes. None exactly where no pair has it.
-pub(crate) fn value_of<'a>(words: &'a [String], name: &str) -> Option<&'a str>
+pub fn value_of<'a>(words: &'a [String], name: &str) -> Option<&'a str>
     ensures { option_map (λ v. v.now) result ≡ value_of (map string_bytes words.now) name.now }
 {
     value_beside(pairs_after(words), name)
 }
 
 /// The value of a name, empty where it doesn't stand.
-pub(crate) fn value_named<'a>(words: &'a [String], name: &str) -> &'a str
+pub fn value_named<'a>(words: &'a [String], name: &str) -> &'a str
     ensures { result.now ≡ value_or_empty (pairs_after (map string_bytes words.now)) name.now }
 {
     value_of(words, name).unwrap_or("")
 }
 
 /// Where the words of the noise come from.
-pub(crate) fn source_of(words: &[String]) -> Source
+pub fn source_of(words: &[String]) -> Source
     ensures { result ≡ source_of (map string_bytes words.now) }
 {
     source_in(pairs_after(words))
 }
 
 /// A number of the command, within its limits, and 0 where it doesn't stand.
-pub(crate) fn number_of(words: &[String], number: Number) -> u64
+pub fn number_of(words: &[String], number: Number) -> u64
     ensures { result ≡ number_of (map string_bytes words.now) number }
 {
     number_in(pairs_after(words), number).unwrap_or(0)

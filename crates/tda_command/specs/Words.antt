@@ -4,12 +4,12 @@ use Rattle.std.specs.List.{list_all}
 use Rattle.std.specs.Str.{bytes_eq}
 use Rattle.std.specs.Map.{lookup}
 use Rattle.tda_io.specs.Texts.{int_of}
-use Rattle.tda_tool.specs.declared.words.Command.{Command}
-use Rattle.tda_tool.specs.declared.words.Command.TheVariants.{Fit, Measure}
-use Rattle.tda_tool.specs.declared.words.Number.{Number}
-use Rattle.tda_tool.specs.declared.words.Number.TheVariants as number
-use Rattle.tda_tool.specs.declared.words.Source.{Source}
-use Rattle.tda_tool.specs.declared.words.Source.TheVariants as source
+use Rattle.tda_command.specs.declared.words.Command.{Command}
+use Rattle.tda_command.specs.declared.words.Command.TheVariants.{Fit, Measure}
+use Rattle.tda_command.specs.declared.words.Number.{Number}
+use Rattle.tda_command.specs.declared.words.Number.TheVariants as number
+use Rattle.tda_command.specs.declared.words.Source.{Source}
+use Rattle.tda_command.specs.declared.words.Source.TheVariants as source
 
 -- a name and its value
 abbrev pub Pairs : Type 0

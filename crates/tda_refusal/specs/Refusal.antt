@@ -1,5 +1,5 @@
 -- The texts of faults: a name, and what the fault carries.
-use Rattle.std.specs.Prelude.{codes, ℕ, ◌≡◌, ◌≢◌, ◌+◌, ◌⊎◌, ◌<◌, List, [], ◌∷◌, ◌++◌, slice_index_or, Some, None}
+use Rattle.std.specs.Prelude.{codes, ℕ, ◌≡◌, ◌+◌, ◌<◌, List, [], ◌∷◌, ◌++◌, slice_index_or, Some, None}
 use Rattle.std.specs.Fmt.{decimal}
 use Rattle.tda_model.specs.Schema.{Schema}
 use Rattle.tda_model.specs.Groups.{kind_count}
@@ -17,12 +17,14 @@ use Rattle.tda_invar.specs.declared.join_fault.JoinFault.{JoinFault}
 use Rattle.tda_invar.specs.declared.join_fault.JoinFault.TheVariants as join
 use Rattle.tda_records.specs.declared.fault.RecFault.{RecFault}
 use Rattle.tda_records.specs.declared.fault.RecFault.TheVariants as records
+use Rattle.tda_places.specs.declared.fault.MeaFault.{MeaFault}
+use Rattle.tda_places.specs.declared.fault.MeaFault.TheVariants as measurements
 use Rattle.tda_hist.specs.declared.fault.HistFault.{HistFault}
 use Rattle.tda_hist.specs.declared.fault.HistFault.TheVariants as hist
-use Rattle.tda_tool.specs.declared.refusal.Plain.{Plain}
-use Rattle.tda_tool.specs.declared.refusal.Plain.TheVariants as plain
-use Rattle.tda_tool.specs.declared.refusal.Named.{Named}
-use Rattle.tda_tool.specs.declared.refusal.Named.TheVariants as named
+use Rattle.tda_refusal.specs.declared.text.Plain.{Plain}
+use Rattle.tda_refusal.specs.declared.text.Plain.TheVariants as plain
+use Rattle.tda_refusal.specs.declared.text.Named.{Named}
+use Rattle.tda_refusal.specs.declared.text.Named.TheVariants as named
 
 abbrev pub schema_text : SchemaFault → List ℕ
 schema_text schema.BadToml = codes "BadToml"
@@ -103,6 +105,15 @@ records_text (records.UnknownValue row) = numbered (codes "UnknownValue") row
 records_text (records.ImpossibleCell row) = numbered (codes "ImpossibleCell") row
 records_text records.NoMemory = []
 
+abbrev pub measurements_text : MeaFault → List ℕ
+measurements_text (measurements.BadRow row) = numbered (codes "BadRow") row
+measurements_text (measurements.BadHeader row) = numbered (codes "BadHeader") row
+measurements_text (measurements.WrongPlace row) = numbered (codes "WrongPlace") row
+measurements_text (measurements.BadNumber row) = numbered (codes "BadNumber") row
+measurements_text (measurements.TooMany row) = numbered (codes "TooMany") row
+measurements_text measurements.Missing = codes "Missing"
+measurements_text measurements.NoMemory = []
+
 -- the name of a kind of quarters: a value of the first attribute
 abbrev pub kind_name : Schema → ℕ → List ℕ
 kind_name s kind = slice_index_or (values_of s 0) kind []
@@ -123,6 +134,7 @@ plain_text (plain.Schema fault) = schema_text fault
 plain_text (plain.Spine fault) = spine_text fault
 plain_text (plain.Facilities fault) = facilities_text fault
 plain_text (plain.Records fault) = records_text fault
+plain_text (plain.Measurements fault) = measurements_text fault
 
 abbrev pub named_text : Schema → Spine → Named → List ℕ
 named_text s sp (named.Totals fault) = totals_text sp fault
@@ -146,22 +158,3 @@ NamesKnown s sp (named.Join (join.Short state total needed)) = IsUnit sp state
 NamesKnown s sp (named.Join join.NoMemory) = Unit {0}
 NamesKnown s sp (named.Hist (hist.NoFacility block kind)) = IsPair s sp block kind
 NamesKnown s sp (named.Hist (hist.Short block kind found needed)) = IsPair s sp block kind
-
--- a fault of a file: want of memory is none
-abbrev pub IsPlainFault : Plain → Type 0
-IsPlainFault plain.TooLong = Unit {0}
-IsPlainFault plain.BadLength = Unit {0}
-IsPlainFault (plain.Schema fault) = fault ≢ schema.NoMemory
-IsPlainFault (plain.Spine fault) = fault ≢ spine.NoMemory
-IsPlainFault (plain.Facilities fault) = fault ≢ facilities.NoMemory
-IsPlainFault (plain.Records fault) = fault ≢ records.NoMemory
-
-abbrev pub IsNamedFault : Named → Type 0
-IsNamedFault (named.Totals fault) = fault ≢ totals.NoMemory
-IsNamedFault (named.Join fault) = fault ≢ join.NoMemory
-IsNamedFault (named.Hist fault) = Unit {0}
-
--- the text of some fault
-abbrev pub IsFaultText : List ℕ → Type 0
-IsFaultText text = ((fault : Plain) × (text ≡ plain_text fault) × IsPlainFault fault)
-    ⊎ ((s : Schema) × (sp : Spine) × (fault : Named) × (text ≡ named_text s sp fault) × IsNamedFault fault)

@@ -1,6 +1,6 @@
 use Rattle.std.proofs.Common.{◌≡◌, ◌+◌, ◌≤◌, map, string_bytes, length}
-use Rattle.tda_tool.specs.Words.{pairs_of, times_in}
-use Rattle.tda_tool.proofs.words.times.Given as goal
+use Rattle.tda_command.specs.Words.{pairs_of, times_in}
+use Rattle.tda_command.proofs.words.times.Given as goal
 
 abbrev pub invariant-loop-rest : goal.invariant-loop-rest
 invariant-loop-rest l = record {

@@ -2,8 +2,8 @@ use Rattle.std.proofs.Common.{rules, tests, map, string_bytes}
 use Rattle.std.proofs.lemmas.List.Folds.{list_all-map}
 use Rattle.std.proofs.lemmas.Iterator.{YieldsList-from_slice}
 use Rattle.std.proofs.lemmas.Iterator.Search.{all_from_yields_List}
-use Rattle.tda_tool.specs.Words.{pairs_of, value_or_empty, values_in, form_of, is_free}
-use Rattle.tda_tool.proofs.words.are_free.Goals as goal
+use Rattle.tda_command.specs.Words.{pairs_of, value_or_empty, values_in, form_of, is_free}
+use Rattle.tda_command.proofs.words.are_free.Goals as goal
 
 pub returns : goal.returns
 returns c =
