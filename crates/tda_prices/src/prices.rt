@@ -1,0 +1,51 @@
+// The prices of all fits.
+ghost use Rattle.std.specs.Prelude.{◌≡◌, ◌<◌, ◌≤◌, nat_abs, pos, slice_index_or, IfSome};
+ghost use Rattle.tda_spine.specs.Sound.{IsInner};
+ghost use Rattle.tda_prices.specs.Items.{price_count, prices_of};
+ghost use Rattle.tda_prices.specs.Kept.{ArePricesOf};
+ghost use Rattle.tda_prices.specs.Priced.{price_in};
+ghost use Rattle.tda_prices.specs.PricesText.{price_limit};
+
+use std::marker::Model;
+use tda_schema::Schema;
+use tda_spine::Spine;
+
+/// The prices of all fits, one after the other in fit order, each within 2^96 of 0. Sixteen bytes are kept for each.
+#[derive(Debug, Drop)]
+pub struct Prices {
+    numbers: Vec<i128>,
+    // Where those of the split at each unit begin, by unit. Those of the nation's fit stand first.
+    starts: Vec<u64>,
+}
+
+impl Model for Prices {
+    ghost use Rattle.std.specs.Prelude.{All, nat_abs, ◌≤◌};
+    ghost use Rattle.tda_prices.specs.Kept.{PriceList};
+    ghost use Rattle.tda_prices.specs.PricesText.{price_limit};
+
+    ghost Value = { PriceList };
+
+    ghost view = { λ p. record { numbers = p.numbers.items; starts = p.starts.items } };
+
+    ghost invariant = { λ p. All (λ z. nat_abs z ≤ price_limit) p.numbers.items };
+}
+
+impl Prices {
+    /// The price of a fit at an index, in the order of the fit's rows, within 2^96 of 0. The fit None is that of the
+    /// nation, Some that of a unit's children.
+    pub fn get(&self, schema: &Schema, spine: &Spine, fit: Option<u32>, index: u64) -> i128
+        requires belong { ArePricesOf schema.now spine.now self.now }
+        requires fit { IfSome fit (IsInner spine.now) }
+        requires index { index < price_count schema.now spine.now fit }
+        ensures price { result ≡ slice_index_or (prices_of schema.now spine.now (price_in schema.now spine.now self.now.numbers) fit) index (pos 0) }
+        ensures limit { nat_abs result ≤ price_limit }
+    {
+        let _ = schema;
+        let _ = spine;
+        let start = match fit {
+            Some(parent) => self.starts[parent as usize],
+            None => 0,
+        };
+        self.numbers[(start + index) as usize]
+    }
+}
