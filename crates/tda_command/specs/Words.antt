@@ -65,8 +65,8 @@ source_numbers source.Seed = number.Place ∷ number.Budget ∷ []
 abbrev pub fit_form : Form
 fit_form = record {
   word = codes "fit";
-  reads = codes "schema" ∷ codes "spine" ∷ codes "facilities" ∷ codes "totals" ∷ [];
-  writes = codes "tables" ∷ [];
+  reads = codes "schema" ∷ codes "spine" ∷ codes "facilities" ∷ codes "totals" ∷ codes "measurements" ∷ [];
+  writes = codes "tables" ∷ codes "prices" ∷ [];
   numbers = [];
 }
 

@@ -11,7 +11,7 @@ use tda_io::read_int;
 pub enum Command {
     /// Measurements, totals and a ledger from records and words.
     Measure,
-    /// Tables from given facilities and totals.
+    /// Tables and prices from facilities, totals and measurements.
     Fit,
 }
 
@@ -83,7 +83,7 @@ impl Command {
             (Command::Measure, Source::Seed) => {
                 &["schema", "spine", "facilities", "records", "seed"]
             }
-            (Command::Fit, _) => &["schema", "spine", "facilities", "totals"],
+            (Command::Fit, _) => &["schema", "spine", "facilities", "totals", "measurements"],
         }
     }
 
@@ -93,7 +93,7 @@ impl Command {
     {
         match self {
             Command::Measure => &["measurements", "totals", "ledger"],
-            Command::Fit => &["tables"],
+            Command::Fit => &["tables", "prices"],
         }
     }
 

@@ -15,11 +15,8 @@ pub mod Ran
 pub mod Writes
 pub mod Surveyed
 pub mod Prepared
-pub mod Attaining
-pub mod FirstCells
-pub mod FindHomes
-pub mod ByKind
-pub mod Parents
-pub mod PlainCounts
-pub mod PlainText
+pub mod Folded
+pub mod PriceCounts
+pub mod Kept
+pub mod Written
 mod Worked

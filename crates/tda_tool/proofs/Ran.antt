@@ -13,10 +13,13 @@ use Rattle.tda_io.specs.declared.outside.OutFault.{OutFault}
 use Rattle.tda_io.specs.declared.outside.OutFault.TheVariants as fault_out
 use Rattle.tda_measure.specs.Noise.{variances_of, IsNoise, IsDetermined}
 use Rattle.tda_measure.specs.declared.stop.MeasureStop.{MeasureStop}
-use Rattle.tda_tool.specs.Attained.{Inputs}
+use Rattle.tda_model.specs.Deviation.{square}
+use Rattle.tda_model.specs.Tables.{Tables}
+use Rattle.tda_model.specs.Release.{Inputs, IsRelease}
+use Rattle.tda_tool.specs.Fitting.{fitted_ending, pricing_text}
 use Rattle.tda_tool.specs.Measuring.{Survey, state_counts, noise_ending, stop_ending, measured_ending, MeasureEnds}
 use Rattle.tda_command.specs.Words.{command_of, form_in, reads_of, writes_of, read_names, write_names, pairs_after, values_in, dash}
-use Rattle.tda_tool.specs.Ending.{Ending, words_ending, refused_ending, read_ending, fit_ending}
+use Rattle.tda_tool.specs.Ending.{Ending, words_ending, refused_ending, read_ending}
 use Rattle.tda_tool.specs.Due.{Given, Task, Fits, Measures, EndsBy, Due, IsDue, IsDueStatus, task_of, task_by, due_task, inputs_from, survey_from, given_by, failing_at}
 use Rattle.tda_tool.specs.Outcome.{IsSettled, whole, asks_all, Leaves, LeavesReport, LeavesAll, ReportsDue, FitWrote, MeasureWrote, NoiseStopped, FileRefused, ReadFailed, AsksPrefix, BeginsPrefix, BeginsWhenDue}
 use Rattle.tda_tool.specs.Files.{name_of, place_of_file, IsRead}
@@ -69,8 +72,15 @@ measure_task words given r is held = ap (task_if words given) is ∙ ap to_measu
 words_task : (words : List (List ℕ)) (given : Given) → command_of words ≡ None → task_by words given ≡ Err words_ending
 words_task words given is = ap (task_if words given) is
 
-fit_due : (words : List (List ℕ)) (s : Shelf) (i : Inputs) → HasInputs words (Some s) i → IsDue words s.holds (fit_ending i.spine)
-fit_due words s i has = due_from words s.holds (Ok (Fits i)) _ (fit_task words (given_by words s.holds) (Ok i) has.0 has.1) refl (λ d h. h)
+-- `fit` may end with any release, always with status 0
+fit_due : (words : List (List ℕ)) (s : Shelf) (i : Inputs) → HasInputs words (Some s) i → (x : Tables) → IsRelease square i x → IsDue words s.holds (fitted_ending i x)
+fit_due words s i has x release =
+    let is = fit_task words (given_by words s.holds) (Ok i) has.0 has.1 in
+    record {
+      due = subst (λ t. EndsBy t (fitted_ending i x)) (sym is) (record { tables = x; release = release; ending = refl });
+      status = λ d h. let ends : EndsBy (Ok (Fits i)) d = subst (λ t. EndsBy t d) is h in ap (λ e. e.status) ends.ending;
+      report = λ some d h. absurd (some refl);
+    }
 
 -- one ending alone belongs to what the noise comes to
 noise_alone : (v : Survey) → IsDetermined (IsNoise (variances_of v.schema v.spine)) → (noise : Result (List ℤ) MeasureStop) (rest : List ℕ)
@@ -96,8 +106,8 @@ record DueAnswer (words : List (List ℕ)) (holds : List ℕ → Option (List �
 
 done_due : (c : Command) (words : List (List ℕ)) (s : Shelf) (a : Answer) → IsDone c words (Some s) a → DueAnswer words s.holds 0 a
 done_due command.Fit words s a done = record {
-  ending = fit_ending done.0.spine;
-  due = fit_due words s done.0 done.1;
+  ending = fitted_ending done.0 done.2.tables;
+  due = fit_due words s done.0 done.1 done.2.tables done.2.certified.release;
   status_is = refl;
   alone = λ some. absurd (some refl);
 }
@@ -202,8 +212,12 @@ wrote_tables words s a old new i has fitted left = record {
   inputs = i;
   accepted = has.1;
   tables = fitted.tables;
-  attained = fitted.attained;
-  written = subst (λ paths. Leaves (whole (slice_index_or paths 0 []) (tables_text i.schema i.spine fitted.tables) ∷ whole dash (fit_ending i.spine).report ∷ []) old new)
+  price = fitted.price;
+  certified = fitted.certified;
+  written = subst (λ paths. Leaves
+      (whole (slice_index_or paths 0 []) (tables_text i.schema i.spine fitted.tables)
+      ∷ whole (slice_index_or paths 1 []) (pricing_text i fitted.price)
+      ∷ whole dash (fitted_ending i fitted.tables).report ∷ []) old new)
       (paths_for words command.Fit has.0)
       (subst (λ files. Leaves files old new) (files_are words _ _ _ a fitted.outputs fitted.report) left);
 }

@@ -8,11 +8,12 @@ use Rattle.tda_invar.specs.declared.fac_fault.FacFault.TheVariants as facilities
 use Rattle.tda_invar.specs.declared.tot_fault.TotFault.TheVariants as totals
 use Rattle.tda_invar.specs.declared.join_fault.JoinFault.TheVariants as join
 use Rattle.tda_records.specs.declared.fault.RecFault.TheVariants as records
+use Rattle.tda_places.specs.declared.fault.MeaFault.TheVariants as measurements
 use Rattle.tda_hist.specs.declared.fault.HistFault.{HistFault}
 use Rattle.tda_command.specs.Words.{read_names}
-use Rattle.tda_refusal.specs.Refusal.{plain_text, schema_text, spine_text, facilities_text, totals_text, join_text, records_text, hist_text}
+use Rattle.tda_refusal.specs.Refusal.{plain_text, schema_text, spine_text, facilities_text, totals_text, join_text, records_text, hist_text, measurements_text}
 use Rattle.tda_refusal.specs.declared.text.Plain.TheVariants.{TooLong, BadLength}
-use Rattle.tda_tool.specs.Ending.{file_limit, seed_length}
+use Rattle.tda_tool.specs.Ending.{file_limit, written_limit, seed_length}
 use Rattle.tda_tool.specs.declared.reading.File.{File}
 use Rattle.tda_tool.specs.declared.reading.File.TheVariants as file
 
@@ -23,6 +24,7 @@ name_of file.Spine = codes "spine"
 name_of file.Facilities = codes "facilities"
 name_of file.Totals = codes "totals"
 name_of file.Records = codes "records"
+name_of file.Measurements = codes "measurements"
 name_of file.Words = codes "words"
 name_of file.Seed = codes "seed"
 
@@ -33,12 +35,14 @@ place_of_file file.Spine = 1
 place_of_file file.Facilities = 2
 place_of_file file.Totals = 3
 place_of_file file.Records = 3
+place_of_file file.Measurements = 4
 place_of_file file.Words = 4
 place_of_file file.Seed = 4
 
 -- how many bytes it may have
 abbrev pub limit_of : File → ℕ
 limit_of file.Seed = seed_length
+limit_of file.Measurements = written_limit
 limit_of _ = file_limit
 
 -- the words' command reads the file, at its place
@@ -58,6 +62,7 @@ IsOwnFault file.Spine t = IsReaderFault spine.NoMemory spine_text t
 IsOwnFault file.Facilities t = IsReaderFault facilities.NoMemory facilities_text t
 IsOwnFault file.Totals t = (sp : Spine) × (IsReaderFault totals.NoMemory (totals_text sp) t ⊎ IsReaderFault join.NoMemory (join_text sp) t)
 IsOwnFault file.Records t = IsReaderFault records.NoMemory records_text t ⊎ ((s : Schema) × (sp : Spine) × (fault : HistFault) × (t ≡ hist_text s sp fault))
+IsOwnFault file.Measurements t = IsReaderFault measurements.NoMemory measurements_text t
 IsOwnFault file.Words t = t ≡ plain_text BadLength
 IsOwnFault file.Seed t = t ≡ plain_text BadLength
 

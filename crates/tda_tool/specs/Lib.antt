@@ -1,10 +1,10 @@
-pub mod Attained
-pub mod Plain
 pub mod Ending
 pub mod Files
 pub mod Measuring
+pub mod Fitting
 pub mod Due
 pub mod Outcome
 pub mod Reading
+pub mod Texts
 pub mod Output
 pub mod Answer

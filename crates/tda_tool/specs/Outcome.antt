@@ -11,13 +11,15 @@ use Rattle.tda_ledger.specs.LedgerText.{ledger_text}
 use Rattle.tda_places.specs.Measurements.{measurements_text}
 use Rattle.tda_measure.specs.Noise.{variances_of, NoiseStops}
 use Rattle.tda_measure.specs.declared.stop.MeasureStop.{MeasureStop}
-use Rattle.tda_tool.specs.Attained.{Inputs, IsAttained}
+use Rattle.tda_model.specs.Release.{Inputs}
+use Rattle.tda_prices.specs.Items.{Pricing}
+use Rattle.tda_tool.specs.Fitting.{IsCertifiedRelease, pricing_text, fitted_ending}
 use Rattle.tda_tool.specs.Measuring.{Survey, state_counts, stop_ending, measured_ending, MeasuresSurvey}
 use Rattle.tda_command.specs.Words.{command_of, reads_of, writes_of, dash}
 use Rattle.tda_command.specs.declared.words.Command.TheVariants.{Measure}
 use Rattle.tda_tool.specs.Files.{name_of, place_of_file, IsRead, IsFaultOf}
 use Rattle.tda_tool.specs.declared.reading.File.{File}
-use Rattle.tda_tool.specs.Ending.{Ending, fit_ending, read_ending, refused_ending}
+use Rattle.tda_tool.specs.Ending.{Ending, read_ending, refused_ending}
 use Rattle.tda_tool.specs.Due.{inputs_from, survey_from, given_by, failing_at, task_by, due_task, IsDue, IsDueStatus}
 
 -- a file with all its bytes, ended
@@ -112,15 +114,18 @@ pub record ReadFailed (words : List (List ℕ)) (shelf shelf_new : Option Shelf)
   pub accepted : IfSome shelf (λ s. task_by words (failing_at (place_of_file file) (given_by words s.holds)) ≡ Err (read_ending (name_of file)))
   pub written : LeavesReport (read_ending (name_of file)).report old new
 
--- `fit` wrote the text of tables that are attained over the files that the inbox holds, and its report, and nothing else.
+-- `fit` wrote tables that are a release over the files that the inbox holds, prices that certify them, and its report with their
+-- deviation, and nothing else.
 pub record FitWrote (words : List (List ℕ)) (holds : List ℕ → Option (List ℕ)) (old new : Option Tray) : Type 0 where
   pub inputs : Inputs
   pub accepted : inputs_from (given_by words holds) ≡ Ok inputs
   pub tables : Tables
-  pub attained : IsAttained inputs tables
+  pub price : Pricing
+  pub certified : IsCertifiedRelease inputs tables price
   pub written : Leaves
       (whole (slice_index_or (writes_of words) 0 []) (tables_text inputs.schema inputs.spine tables)
-      ∷ whole dash (fit_ending inputs.spine).report ∷ []) old new
+      ∷ whole (slice_index_or (writes_of words) 1 []) (pricing_text inputs price)
+      ∷ whole dash (fitted_ending inputs tables).report ∷ []) old new
 
 -- The noise of `measure` stops, so that this is the status: all files were asked for and accepted, and nothing but the report of the place was begun.
 pub record NoiseStopped (words : List (List ℕ)) (status : ℕ) (shelf shelf_new : Option Shelf) (old new : Option Tray) : Type 0 where

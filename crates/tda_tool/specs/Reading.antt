@@ -1,5 +1,5 @@
 -- What reading the files of a command gives, asks for and counts.
-use Rattle.std.specs.Prelude.{◌≡◌, ◌≢◌, ◌⊎◌, ◌<◌, ◌≤◌, ℕ, ◌+◌, ◌%◌, ◌^◌, codes, List, [], length, take, slice_get, slice_index_or, sum, count_by, Option, Some, IfSome, option_map, Result, Ok, Err}
+use Rattle.std.specs.Prelude.{◌≡◌, ◌≢◌, ◌⊎◌, ◌<◌, ◌≤◌, ℕ, ℤ, ◌+◌, ◌%◌, ◌^◌, codes, List, [], length, take, slice_get, slice_index_or, sum, count_by, Option, Some, IfSome, option_map, Result, Ok, Err}
 use Rattle.std.specs.Global.{Vec}
 use Rattle.rand_chacha.specs.ChaCha.{key_of}
 use Rattle.tda_io.specs.Outside.{Shelf, asks}
@@ -8,7 +8,10 @@ use Rattle.tda_model.specs.Spine.{Spine, IsUnit}
 use Rattle.tda_model.specs.Tables.{persons_in}
 use Rattle.tda_model.specs.Bounds.{persons_limit}
 use Rattle.tda_invar.specs.KindTable.{NumberTable}
-use Rattle.tda_invar.specs.Known.{JoinedLists, known, join_due}
+use Rattle.tda_invar.specs.Known.{JoinedLists, IsJoined, known, known_of, join_due}
+use Rattle.tda_spine.specs.Judged.{IsWithinLimits}
+use Rattle.tda_places.specs.Measurements.{AreMeasurementsOf}
+use Rattle.tda_model.specs.Release as release
 use Rattle.tda_records.specs.Records.{AreRecordsOf}
 use Rattle.tda_records.specs.declared.records.Record.{Record}
 use Rattle.tda_out.specs.Counts.{Counts, count_at, counts_of, AreCountsOf}
@@ -16,9 +19,10 @@ use Rattle.tda_hist.specs.TrueTable.{lives_in, true_count, state_persons}
 use Rattle.tda_words.specs.Words.{words_of, stream_words}
 use Rattle.tda_measure.specs.Measured.{HaveFewPersons}
 use Rattle.tda_tool.specs.Measuring.{Survey}
+use Rattle.tda_tool.specs.Fitting.{inputs_by}
 use Rattle.tda_command.specs.Words.{reads_of, read_names}
 use Rattle.tda_tool.specs.Ending.{Ending, file_limit, seed_length, or_refused, judged_within, read_ending, refused_ending}
-use Rattle.tda_tool.specs.Due.{Given, given_by, failing_at, totals_from, records_from, survey_from}
+use Rattle.tda_tool.specs.Due.{Given, given_by, failing_at, totals_from, records_from, inputs_from, survey_from}
 use Rattle.tda_tool.specs.Outcome.{AsksPrefix, asks_all}
 use Rattle.tda_refusal.specs.Refusal.{plain_text, join_text}
 use Rattle.tda_tool.specs.Files.{name_of, place_of_file, limit_of, IsRead, IsFaultOf}
@@ -30,6 +34,7 @@ use Rattle.tda_tool.specs.declared.reading.File.TheVariants as file
 use Rattle.tda_refusal.specs.declared.text.Plain.TheVariants.{TooLong}
 use Rattle.tda_tool.specs.declared.reading.Stop.{Stop}
 use Rattle.tda_tool.specs.declared.reading.Stop.TheVariants as stop
+use Rattle.tda_tool.specs.declared.inputs.Inputs.{Inputs}
 use Rattle.tda_tool.specs.declared.noise.Noise.{Noise}
 use Rattle.tda_tool.specs.declared.noise.Noise.TheVariants as noise
 use Rattle.tda_tool.specs.declared.counted.Counted.{Counted}
@@ -122,6 +127,31 @@ AsksFiles words n old new (Ok x) = new ≡ option_map (asks_all (take n (reads_o
 AsksFiles words n old new (Err (stop.Refused r)) = new ≡ option_map (asks_all (take (place_of_file r.file + 1) (reads_of words))) old
 AsksFiles words n old new (Err (stop.Read f)) = new ≡ option_map (asks_all (take (place_of_file f + 1) (reads_of words))) old
 AsksFiles words n old new (Err stop.NoMemory) = AsksPrefix (reads_of words) old new
+
+-- ---- what tables are made from
+
+-- the words' command reads the files of the inputs
+pub record ReadsInputs (words : List (List ℕ)) : Type 0 where
+  pub schema : IsRead words file.Schema
+  pub spine : IsRead words file.Spine
+  pub facilities : IsRead words file.Facilities
+  pub totals : IsRead words file.Totals
+  pub measurements : IsRead words file.Measurements
+
+-- as they are published
+abbrev pub inputs_in : Inputs → release.Inputs
+inputs_in i = inputs_by i.schema i.spine (known_of i.spine i.invariants) i.measurements
+
+-- they go together
+pub record AreInputs (s : Schema) (sp : Spine) (inv : JoinedLists) (m : List ℤ) : Type 0 where
+  pub limits : IsWithinLimits s sp
+  pub joined : IsJoined s sp inv
+  pub measured : AreMeasurementsOf s sp m
+
+-- what the files of the inputs come to
+abbrev pub GathersInputs : List (List ℕ) → Option Shelf → Result Inputs Stop → Type 0
+GathersInputs words shelf (Ok i) = AreInputs i.schema i.spine i.invariants i.measurements × Gathers words 5 inputs_from shelf (Ok (inputs_in i))
+GathersInputs words shelf (Err e) = Gathers words 5 inputs_from shelf (Err e)
 
 -- ---- what is measured
 

@@ -7,7 +7,9 @@ ghost use Rattle.tda_tool.specs.Reading.{AsksFile, CountsRead, GivesNoise, sourc
 
 use crate::reading::{File, SEED, Stop, read_bytes, refused};
 use std::alloc::Global;
+use tda_command::{Number, Source, number_of, source_of};
 use tda_io::Inbox;
+use tda_refusal::Plain;
 
 /// Where words are taken from, accepted.
 #[derive(Debug, Drop)]

@@ -33,7 +33,13 @@ fn fit<I: Inbox>(alloc: Global, words: &[String], inbox: &mut I) -> Result<Answe
     ensures cause { CountsPrepared (I.faults inbox.old) (I.faults inbox.new) result }
 {
     match read_inputs(alloc, words, inbox) {
-        Ok(inputs) => fitted(alloc, &inputs),
+        Ok(inputs) => fitted(
+            alloc,
+            &inputs.schema,
+            &inputs.spine,
+            &inputs.invariants,
+            &inputs.measurements,
+        ),
         Err(stop) => stopped(alloc, &stop),
     }
 }

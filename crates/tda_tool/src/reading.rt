@@ -15,6 +15,9 @@ use tda_spine::Spine;
 /// The longest file that is read.
 const LIMIT: usize = 1 << 28;
 
+/// The longest file that is read of a kind that the program writes too.
+const WRITTEN_LIMIT: usize = 1 << 30;
+
 /// How many bytes a seed has.
 pub(crate) const SEED: usize = 32;
 
@@ -26,6 +29,7 @@ pub(crate) enum File {
     Facilities,
     Totals,
     Records,
+    Measurements,
     Words,
     Seed,
 }
@@ -44,6 +48,7 @@ impl File {
             File::Facilities => "facilities",
             File::Totals => "totals",
             File::Records => "records",
+            File::Measurements => "measurements",
             File::Words => "words",
             File::Seed => "seed",
         }
@@ -52,10 +57,11 @@ impl File {
     // How many bytes it may have.
     fn limit(self) -> usize
         ensures limit { result ≡ limit_of self }
-        ensures small { result ≤ 2 ^ 28 }
+        ensures small { result ≤ 2 ^ 30 }
     {
         match self {
             File::Seed => SEED,
+            File::Measurements => WRITTEN_LIMIT,
             File::Schema
             | File::Spine
             | File::Facilities

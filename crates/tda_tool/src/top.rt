@@ -76,7 +76,8 @@ pub fn tool<I: Inbox, O: Outbox>(
     ensures settled_report { IsSettled result → result ≢ 0 → IfSome (I.told inbox.old) (λ s.
         ReportsDue (map string_bytes words.now) s.holds (O.told outbox.old) (O.told outbox.new)) }
 
-    // The tables that `fit` writes are attained over what the inbox holds, and nothing else is written but the report.
+    // The tables that `fit` writes are a release over what the inbox holds, as the prices show that it writes, and nothing
+    // else is written but the report.
     ensures fit_wrote { result ≡ 0 → command_of (map string_bytes words.now) ≡ Some Command.Fit → IfSome (I.told inbox.old) (λ s.
         FitWrote (map string_bytes words.now) s.holds (O.told outbox.old) (O.told outbox.new)) }
 
