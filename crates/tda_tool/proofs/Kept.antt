@@ -1,7 +1,8 @@
 -- The texts after fits were kept, one after the other.
-use Rattle.std.proofs.Common.{◌≡◌, ℕ, ◌+◌, ◌-◌, ◌^◌, ◌≤◌, min, List, [], ◌∷◌, ◌++◌, map, refl, sym, ap, ◌∙◌, subst, arith}
+use Rattle.std.proofs.Common.{◌≡◌, ℕ, ◌+◌, ◌-◌, ◌^◌, ◌≤◌, min, List, [], ◌∷◌, ◌++◌, length, map, refl, sym, ap, ◌∙◌, subst, arith}
 use Rattle.std.specs.List.{flat_map, sum_by, FoldsTo}
 use Rattle.std.proofs.lemmas.List.{append_assoc, append-nil}
+use Rattle.std.proofs.lemmas.List.Sums.{sum_by-append}
 use denote.Ref.{Bor, MutBor}
 use Rattle.tda_model.specs.Schema.{Schema}
 use Rattle.tda_model.specs.Spine.{Spine}
@@ -10,6 +11,7 @@ use Rattle.tda_prices.specs.PricesText.{fit_text}
 use Rattle.tda_descent.specs.declared.fit.Fit.{Fit}
 use Rattle.tda_tool.specs.Texts.{HasFit, most_sum}
 use Rattle.tda_tool.specs.declared.release.Texts.{Texts}
+use Rattle.tda_descent.specs.Kept.{IsFormed}
 use Rattle.tda_tool.proofs.Folded.{folded}
 
 -- what the closure that keeps fits has borrowed
@@ -40,9 +42,11 @@ module _ (s : Schema) (sp : Spine) where
   flat_more f [] fit = append-nil (f fit)
   flat_more f (x ∷ xs) fit = ap (λ t. f x ++ t) (flat_more f xs fit) ∙ sym (append_assoc (f x) (flat_map f xs) (f fit))
 
+  alone : (n : ℕ) → 0 + n ≡ n
+  alone n = omega arith
+
   sum_more : (f : Fit → ℕ) (fits : List Fit) (fit : Fit) → sum_by f (fits ++ fit ∷ []) ≡ sum_by f fits + f fit
-  sum_more f [] fit = omega arith
-  sum_more f (x ∷ xs) fit = let e = sum_more f xs fit in omega arith
+  sum_more f fits fit = sum_by-append f fits (fit ∷ []) ∙ ap (λ n. sum_by f fits + n) (alone (f fit))
 
   text_more : (f : Fit → List ℕ) (old mid new : List ℕ) (fits : List Fit) (fit : Fit) → mid ≡ old ++ flat_map f fits → new ≡ mid ++ f fit → new ≡ old ++ flat_map f (fits ++ fit ∷ [])
   text_more f old mid new fits fit before here =
@@ -93,3 +97,10 @@ pub all_taken : (R : Keeper → Fit → Keeper → Type 0) → ((k : Keeper) (fi
     → (fits : List Fit) (k last : Keeper) → FoldsTo R k fits last → HasTaken k fits last
 all_taken R steps fits k last folds =
     folded R (HasTaken k) (λ seen mid fit next before r. taken_more k mid next seen fit before (steps mid fit next r)) fits k last (taken_none k) folds
+
+-- and may take one more
+pub next_takes : (k last : Keeper) (fits : List Fit) → HasTaken k fits last → k.2.now.depth ≡ length k.1.now.levels → (fit y : Fit) → IsFormed k.1.now k.2.now fit → y ≡ fit
+    → (last.2.now.depth ≡ length last.1.now.levels) × IsFormed last.1.now last.2.now y
+next_takes k last fits taken belong fit y is same =
+    subst (λ a. (last.2.now.depth ≡ length a.now.levels) × IsFormed a.now last.2.now y) (sym taken.schema)
+    (subst (λ b. (b.now.depth ≡ length k.1.now.levels) × IsFormed k.1.now b.now y) (sym taken.spine) (belong, subst (IsFormed k.1.now k.2.now) (sym same) is))

@@ -15,8 +15,11 @@ pub mod Ran
 pub mod Writes
 pub mod Surveyed
 pub mod Prepared
+pub mod Squares
+pub mod UnitsHere
 pub mod Folded
 pub mod PriceCounts
 pub mod Kept
 pub mod Written
+pub mod Releasing
 mod Worked

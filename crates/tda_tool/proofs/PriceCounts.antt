@@ -1,7 +1,7 @@
 -- A fit has a price for each node of its network but the hub.
-use Rattle.std.proofs.Common.{◌≡◌, ◌≢◌, ℕ, zero, suc, ◌+◌, ◌*◌, ◌<◌, ◌≤◌, ◌==◌, Bool, true, false, List, [], ◌∷◌, ◌++◌, length, map, refl, sym, ap, ◌∙◌, subst, arith, inl, inr, Option, Some, None, eqb-eq}
+use Rattle.std.proofs.Common.{◌≡◌, ◌≢◌, ℕ, zero, suc, ◌+◌, ◌*◌, ◌<◌, ◌≤◌, ◌==◌, Bool, true, false, List, [], ◌∷◌, ◌++◌, length, map, refl, sym, ap, ◌∙◌, subst, arith, inl, inr, Option, Some, None}
 use Rattle.std.specs.List.{flat_map, range_with_len}
-use Rattle.std.proofs.lemmas.Bool.{cases_eq}
+use Rattle.std.proofs.lemmas.Bool.{cases_eq, eqb-true}
 use Rattle.std.proofs.lemmas.List.{length-append, length-map}
 use Rattle.std.proofs.lemmas.List.FromFn.{length-range_with_len}
 use Rattle.tda_model.specs.Schema.{Schema}
@@ -32,7 +32,7 @@ module _ (s : Schema) (sp : Spine) (tree : IsTree sp (nation_of sp)) where
 
       named : (o : Option ℕ) (q : ℕ) → o ≡ Some q → elim o [ Some r ↦ p == r | None ↦ false ] ≡ true → p ≡ q
       named None q e is = cc e
-      named (Some r) q e is = let same : r ≡ q = cc e in eqb-eq p r is ∙ same
+      named (Some r) q e is = let same : r ≡ q = cc e in eqb-true p r is ∙ same
 
   pub children_level : (p : ℕ) → Each (λ u. level_of sp u ≡ level_of sp p + 1) (children_of sp p)
   children_level p = each_filter (λ u. level_of sp u ≡ level_of sp p + 1) (is_child sp p) (unit_numbers sp) (each_range _ 0 (length sp.units) (λ u low high is. child_level p u (omega arith) is))

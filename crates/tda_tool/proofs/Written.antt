@@ -24,9 +24,11 @@ use Rattle.tda_prices.proofs.PricedBack.{before_at, own_fit, fits_apart, priced_
 use Rattle.tda_prices.proofs.MadeUp.{made_up}
 use Rattle.tda_descent.specs.declared.fit.Fit.{Fit}
 use Rattle.tda_descent.specs.Fits.{units_of, IsFitOf, IsCertifiedAt, level_below}
-use Rattle.tda_tool.specs.Fitting.{CertifiesAt, pricing_text}
+use Rattle.tda_tool.specs.Fitting.{CertifiesAt, pricing_text, total_deviation}
+use Rattle.tda_tool.specs.Texts.{most_sum, AreHeaders, AreTextsOf}
+use Rattle.tda_tool.specs.declared.release.Texts.{Texts}
 use Rattle.tda_tool.proofs.PriceCounts.{price_nodes}
-use Rattle.tda_tool.proofs.Kept.{fit_rows, fit_price_rows}
+use Rattle.tda_tool.proofs.Kept.{fit_rows, fit_price_rows, HasFits}
 
 same_flat : {X Y : Type 0} (f g : X → List Y) (xs : List X) → Each (λ x. f x ≡ g x) xs → flat_map f xs ≡ flat_map g xs
 same_flat f g [] h = refl
@@ -148,3 +150,18 @@ module _ (i : Inputs) (tree : IsTree i.spine (nation_of i.spine)) (x : Tables) (
   prices_written =
       ap (λ t. row_text header ++ t) (each_own fits (fits_of i.spine) order (λ n l. own_prices n (omega (arith, long)) ∙ prices_at n (omega (arith, long))))
       ∙ sym (made_up i.schema i.spine (prices_of i.schema i.spine pricing) (λ f. length-map (items_of i.schema i.spine f) (pricing f)))
+
+  -- ---- all together
+
+  most_alone : (n : ℕ) → n < 2 ^ 128 → most_sum 0 n ≡ n
+  most_alone n l = omega arith
+
+  pub texts_written : IsRelease square i x → sum_by (λ fit. fit.deviation) fits ≡ total_deviation i x → total_deviation i x < 2 ^ 128 → (old new : Texts) → AreHeaders old → HasFits i.schema i.spine old fits new → AreTextsOf i new
+  texts_written release total small old new headers has = record {
+    tables = x;
+    price = pricing;
+    certified = record { release = release; certified = all_certified };
+    tables_are = has.tables ∙ ap (λ t. t ++ flat_map (fit_rows i.schema i.spine) fits) headers.tables ∙ tables_written;
+    prices_are = has.prices ∙ ap (λ t. t ++ flat_map (fit_price_rows i.schema i.spine) fits) headers.prices ∙ prices_written;
+    deviation = has.deviation headers.deviation ∙ ap (most_sum 0) total ∙ most_alone (total_deviation i x) small;
+  }

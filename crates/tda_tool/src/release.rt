@@ -54,6 +54,8 @@ impl Texts {
         requires formed { IsFormed schema.now spine.now fit.now }
         ensures { OnOk result (HasFit schema.now spine.now fit.now self.old self.new) }
     {
+        // The units are a tree.
+        let _ = spine.units();
         write_tables(schema, spine, &fit.units, &fit.counts, &mut self.tables)?;
         write_prices(schema, spine, fit.parent, &fit.prices, &mut self.prices)?;
         self.deviation = self.deviation.saturating_add(fit.deviation);
@@ -98,6 +100,8 @@ pub(crate) fn release_texts(
     let mut solver = solver_of(alloc, schema, spine)?;
     let loss = Loss::new(Curve::Square, square);
     let mut texts = Texts::new(alloc)?;
+    // The units are a tree.
+    let _ = spine.units();
     let fitted = descend(
         alloc,
         schema,
