@@ -67,7 +67,7 @@ avoids_below net rank t k tf tt' [] j l a = tt
 avoids_below net rank t k tf tt' (u ∷ us) j l a =
     (other_arc net rank t u j k tf tt' a.0 a.1 l, avoids_below net rank t k tf tt' us (suc j) (omega arith) a.2)
 
-apart_of_ascent : (net : Network) (rank : ℕ → Option ℕ) (ts : List Turn) (k : ℕ) → Ascends net rank k ts → IsApart ts
+pub apart_of_ascent : (net : Network) (rank : ℕ → Option ℕ) (ts : List Turn) (k : ℕ) → Ascends net rank k ts → IsApart ts
 apart_of_ascent net rank [] k a = tt
 apart_of_ascent net rank (t ∷ ts) k a = (avoids_below net rank t k a.0 a.1 ts (suc k) (omega arith) a.2, apart_of_ascent net rank ts (suc k) a.2)
 

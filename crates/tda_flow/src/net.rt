@@ -110,16 +110,16 @@ impl Net {
         &self.terms[start..end]
     }
 
-    // The turn pushed last of those that begin at `node`. From it `next_turn` leads to each other one
-    // exactly once: the numbers of the turns fall.
-    pub(crate) fn first_turn(&self, node: u32) -> Option<Turn>
+    /// The turn pushed last of those that begin at `node`. From it `next_turn` leads to each other one
+    /// exactly once: the numbers of the turns fall.
+    pub fn first_turn(&self, node: u32) -> Option<Turn>
         ensures { IsLastBelow self.now node (2 * arc_count self.now) result }
     {
         first_at(&self.heads, node)
     }
 
-    // The turn pushed before `turn` that begins at the same node. Its arc is in range.
-    pub(crate) fn next_turn(&self, turn: Turn) -> Option<Turn>
+    /// The turn pushed before `turn` that begins at the same node. Its arc is in range.
+    pub fn next_turn(&self, turn: Turn) -> Option<Turn>
         requires { turn.arc < arc_count self.now }
         ensures { IsLastBelow self.now (turn_from self.now turn) (turn_number turn) result }
     {

@@ -9,14 +9,11 @@ use Rattle.std.proofs.lemmas.List.Elements.{All-contains, Contains-get_or, Decid
 use Rattle.tda_model.specs.Groups.{AreNested}
 use Rattle.tda_schema.specs.Parts.{holds}
 use Rattle.tda_groups.specs.Order.{IsWithin, first_cell, ComesBefore, IsCellSet, group_at, AreGroups, IsSmallest, IsNext}
+pub use Rattle.tda_groups.specs.Chains.{has_cell}
 use Rattle.tda_groups.proofs.Ordering.{within_tells, has_first, least, within_fits, not_before_itself}
 
 pub holds-Decides : (xs : List ℕ) (x : ℕ) → Decides (holds xs x) (Contains xs x)
 holds-Decides xs x = Decides-contains xs x (holds xs x) (Decides-by_or (λ y. y == x) (λ y. y ≡ x) (list_any (λ y. y == x)) (λ y. Decides-eqb y x) refl (λ _ _. refl) xs)
-
--- whether a group has a cell
-abbrev pub has_cell : List (List ℕ) → ℕ → ℕ → Bool
-has_cell groups z g = holds (group_at groups g) z
 
 -- the last number below a count that passes
 abbrev pub last_below : (ℕ → Bool) → ℕ → Option ℕ

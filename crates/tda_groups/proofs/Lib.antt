@@ -3,6 +3,8 @@ pub mod Ascending
 pub mod Classes
 pub mod Ordering
 pub mod Chained
+pub mod Unique
+pub mod OneTree
 pub mod Walked
 pub mod Once
 pub mod Filled

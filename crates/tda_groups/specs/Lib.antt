@@ -1,3 +1,4 @@
 pub mod Sources
 pub mod Order
+pub mod Chains
 pub mod Tree

@@ -5,6 +5,7 @@ use Rattle.tda_model.specs.Schema.{Query, Level, Schema}
 use Rattle.tda_model.specs.Cells.{possible_cells}
 use Rattle.tda_model.specs.Groups.{kind_cells, kind_count, class_cells, classes_of, group_count, IsGroup}
 use Rattle.tda_groups.specs.Order.{AreGroups, group_at}
+use Rattle.tda_groups.specs.Chains.{groups_in_order}
 
 -- the groups in order, the group of each kind, and of each query and cell the group of the class that the cell names
 pub record Tree : Type 0 where
@@ -36,3 +37,4 @@ pub record IsTreeOf (s : Schema) (l : Level) (t : Tree) : Type 0 where
   pub each_kind : (kind : ℕ) → kind < kind_count s → IsSomeAnd (kind_at t kind) (λ g. slice_get t.groups g ≡ Some (kind_cells s kind))
   pub each_class : (query class : ℕ) (q : Query) → slice_get l.queries query ≡ Some q → Contains (classes_of s q) class
       → IsSomeAnd (class_at t query class) (λ g. slice_get t.groups g ≡ Some (class_cells s q class))
+  pub listed : t.groups ≡ groups_in_order s l

@@ -1,6 +1,7 @@
 // Groups in order, each with the next larger one, and of each cell the smallest.
-ghost use Rattle.std.specs.Prelude.{◌≡◌, ◌<◌, ◌≤◌, ◌^◌, ℕ, None, Some, length, slice_index_or, All, Contains, IfOk, MatchOption, if◌then◌else◌};
+ghost use Rattle.std.specs.Prelude.{◌≡◌, ◌<◌, ◌≤◌, ◌^◌, ℕ, None, Some, length, slice_index_or, All, Contains, IfOk, IfSome, MatchOption, if◌then◌else◌};
 ghost use Rattle.tda_schema.specs.Parts.{holds};
+ghost use Rattle.tda_groups.specs.Chains.{smallest_of, next_of};
 ghost use Rattle.tda_groups.specs.Order.{AreGroups, IsSmallest, IsNext, IsCellSet, group_at};
 
 use crate::cell_set::CellSet;
@@ -79,7 +80,8 @@ impl Chains {
     /// The smallest group that has the cell, which is one of the whole.
     pub(crate) fn smallest(&self, cell: u32) -> u32
         requires { Contains (group_at self.now 0) cell }
-        ensures { IsSmallest self.now cell result }
+        ensures least { IsSmallest self.now cell result }
+        ensures value { result ≡ smallest_of self.now cell }
     {
         self.smallest[cell as usize].unwrap()
     }
@@ -87,7 +89,8 @@ impl Chains {
     /// The least group that holds this one and is another, None for the whole alone.
     pub(crate) fn next(&self, group: u32) -> Option<u32>
         requires { group < length self.now }
-        ensures { MatchOption result (group ≡ 0) (IsNext self.now group) }
+        ensures least { MatchOption result (group ≡ 0) (IsNext self.now group) }
+        ensures value { IfSome result (λ h. h ≡ next_of self.now group) }
     {
         self.next[group as usize]
     }

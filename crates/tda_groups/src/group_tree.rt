@@ -1,11 +1,12 @@
 // The tree of a level's groups.
-ghost use Rattle.std.specs.Prelude.{◌≡◌, ◌<◌, ◌≤◌, ◌∷◌, ◌++◌, [], Some, length, map, slice_get, All, Contains, IfOk, IsSome, MatchOption};
+ghost use Rattle.std.specs.Prelude.{◌≡◌, ◌<◌, ◌≤◌, ◌∷◌, ◌++◌, [], Some, length, map, slice_get, All, Contains, IfOk, IfSome, IsSome, MatchOption};
 ghost use Rattle.std.specs.List.{range_with_len};
 ghost use Rattle.tda_schema.specs.Stated.{level_at, queries_at, query_at};
 ghost use Rattle.tda_model.specs.Cells.{all_cells};
 ghost use Rattle.tda_model.specs.Schema as model;
 ghost use Rattle.tda_model.specs.Groups.{kind_cells, kind_count, class_cells, classes_of};
 ghost use Rattle.tda_groups.specs.Sources.{named_cells, class_sets};
+ghost use Rattle.tda_groups.specs.Chains.{smallest_of, next_of};
 ghost use Rattle.tda_groups.specs.Order.{AreGroups, IsSmallest, IsNext, IsCellSet, group_at};
 ghost use Rattle.std.specs.List.Sorted.{IsStrictlyIncreasing};
 ghost use Rattle.tda_groups.specs.Tree.{kind_at, class_at, place_in, IsGroupAt, IsTreeOf};
@@ -105,7 +106,8 @@ impl GroupTree {
     /// The smallest group that has a possible cell.
     pub fn smallest(&self, cell: u32) -> u32
         requires { Contains (group_at self.now.groups 0) cell }
-        ensures { IsSmallest self.now.groups cell result }
+        ensures least { IsSmallest self.now.groups cell result }
+        ensures value { result ≡ smallest_of self.now.groups cell }
     {
         self.chains.smallest(cell)
     }
@@ -113,7 +115,8 @@ impl GroupTree {
     /// The next larger group: the least one that holds all cells of this one and more. None for group 0 alone.
     pub fn next(&self, group: u32) -> Option<u32>
         requires { group < length self.now.groups }
-        ensures { MatchOption result (group ≡ 0) (IsNext self.now.groups group) }
+        ensures least { MatchOption result (group ≡ 0) (IsNext self.now.groups group) }
+        ensures value { IfSome result (λ h. h ≡ next_of self.now.groups group) }
     {
         self.chains.next(group)
     }

@@ -1,5 +1,5 @@
 -- One row of a text after the other.
-use Rattle.std.proofs.Common.{◌≡◌, ◌≢◌, ◌+◌, ◌<◌, ◌≤◌, ◌^◌, ◌∷◌, [], ℕ, zero, suc, List, Bor, Bool, true, false, length, Option, Some, None, refl, sym, ap, subst, ◌∙◌, arith, inl, inr}
+use Rattle.std.proofs.Common.{◌≡◌, ◌≢◌, ◌+◌, ◌<◌, ◌≤◌, ◌^◌, ◌∷◌, [], ℕ, List, Bor, true, false, length, Option, Some, None, refl, sym, ◌∙◌, arith, inl, inr}
 use Rattle.std.specs.Prelude.{◌==◌, IsSome, option_map}
 use Rattle.std.proofs.lemmas.Bool.{cases_Bool, eq-eqb, eqb-true, eqb-false}
 use Rattle.csv.specs.Reading.{ReadRecord, Ready, default_config, source_of, strip_bom}
@@ -10,7 +10,7 @@ use Rattle.csv.specs.declared.reader.Trim.TheVariants as trim
 use Rattle.csv.proofs.RecordFacts.{field-there}
 use Rattle.tda_io.specs.Csv.{Row}
 use Rattle.tda_io.specs.Rows.{bad_width, other_width, rows_of}
-use Rattle.tda_io.specs.RowReading.{RowsRead, TakesRow, EndsRows, IsReading, Reads, bad_rest, left_of, rest_of}
+use Rattle.tda_io.specs.RowReading.{RowsRead, TakesRow, EndsRows, IsReading, bad_rest, left_of, rest_of}
 use Rattle.tda_io.proofs.AllRows.{last, next, strip_bom-shorter}
 
 -- a reader before the first row
@@ -63,7 +63,7 @@ before : (r : RowsRead) → r.number ≡ 0 → bad_rest r ≡ bad_width r.rest
 before r none = rw none refl
 
 -- a row of the width of those before it, or the first
-module _ (old new : RowsRead) (rest : old.rest ≡ new.row ∷ new.rest) (number : new.number ≡ old.number + 1) (width : new.width ≡ length new.row) (same : 0 < old.number → new.width ≡ old.width) where
+module _ (old new : RowsRead) (rest : old.rest ≡ new.row ∷ new.rest) (number : new.number ≡ old.number + 1) (width : new.width ≡ length new.row) (same : 0 < old.number → new.width ≡ old.width) (sound : old.failed ≡ false) (stays : new.failed ≡ false) where
   bad_first : old.number ≡ 0 → bad_rest new ≡ bad_rest old
   bad_first none =
       let two : new.number + 1 ≡ 2 = omega (arith, number, none) in
@@ -84,6 +84,8 @@ module _ (old new : RowsRead) (rest : old.rest ≡ new.row ∷ new.rest) (number
       | inl none ↦ bad_first (eqb-true _ _ none)
       | inr there ↦ bad_later (omega (arith, eqb-false _ _ there))
     ];
+    sound = sound;
+    stays_sound = stays;
   }
 
 -- a row of another width
@@ -105,5 +107,6 @@ pub is_there : (fields : Row) (col : ℕ) → col < length fields → (o : Optio
 is_there fields col within None is = absurd (field-there fields col within (sym is))
 is_there fields col within (Some s) is = refl
 
-pub ends : (old new : RowsRead) → old.rest ≡ [] → new.rest ≡ [] → EndsRows old new
-ends old new gone still = record { none = gone; even = no_rest old gone; stays = still; stays_even = no_rest new still }
+pub ends : (old new : RowsRead) → old.rest ≡ [] → new.rest ≡ [] → new.number ≡ old.number → new.width ≡ old.width → old.failed ≡ false → new.failed ≡ false → EndsRows old new
+ends old new gone still number width sound stays =
+    record { none = gone; even = no_rest old gone; stays = still; stays_even = no_rest new still; number = number; width = width; sound = sound; stays_sound = stays }

@@ -1,9 +1,7 @@
 -- Readers that take one row after the other: what they owe, by the rows that are left.
-use Rattle.std.proofs.Common.{◌≡◌, ℕ, ◌+◌, ◌<◌, ◌++◌, Bool, true, false, List, [], ◌∷◌, length, Option, Some, None, Result, Ok, Err, refl, sym, ap, ◌∙◌, arith}
-use Rattle.std.specs.Prelude.{option_map}
+use Rattle.std.proofs.Common.{◌≡◌, ℕ, ◌+◌, ◌<◌, ◌++◌, true, false, List, [], ◌∷◌, length, Option, Some, None, Ok, Err, refl, sym, ap, ◌∙◌, arith}
 use Rattle.std.proofs.lemmas.List.{append_assoc, append-nil, length_push}
 use Rattle.tda_io.specs.Csv.{Row, Format, first_fault, or_else, same_row, read}
-use Rattle.tda_io.specs.Due.{none_of}
 use Rattle.tda_io.specs.Rows.{rows_of}
 use Rattle.tda_io.specs.RowReading.{RowsRead, TakesRow, bad_rest, rest_due, unread}
 

@@ -14,16 +14,17 @@ use Rattle.tda_io.specs.declared.row_reader.Progress.TheVariants as progress
 use Rattle.tda_io.specs.declared.rows.RowFault.{RowFault}
 use Rattle.tda_io.specs.declared.rows.RowFault.TheVariants as fault
 
--- the row that was read last, how many were read, how wide they are, and the rows that are left
+-- the row that was read last, how many were read, how wide they are, the rows that are left, and whether memory ran out
 pub record RowsRead : Type 0 where
   pub row : Row
   pub number : ℕ
   pub width : ℕ
   pub rest : List Row
+  pub failed : Bool
 
 -- nothing of a text was read
 abbrev pub unread : List ℕ → RowsRead
-unread text = record { row = []; number = 0; width = 0; rest = rows_of text }
+unread text = record { row = []; number = 0; width = 0; rest = rows_of text; failed = false }
 
 -- the first row that is left and has another width than row 1
 abbrev pub bad_rest : RowsRead → Option ℕ
@@ -36,6 +37,8 @@ pub record TakesRow (old new : RowsRead) : Type 0 where
   pub width : new.width ≡ length new.row
   pub same : 0 < old.number → new.width ≡ old.width
   pub bad : bad_rest new ≡ bad_rest old
+  pub sound : old.failed ≡ false
+  pub stays_sound : new.failed ≡ false
 
 -- there is no further row
 pub record EndsRows (old new : RowsRead) : Type 0 where
@@ -43,18 +46,32 @@ pub record EndsRows (old new : RowsRead) : Type 0 where
   pub even : bad_rest old ≡ None
   pub stays : new.rest ≡ []
   pub stays_even : bad_rest new ≡ None
+  pub number : new.number ≡ old.number
+  pub width : new.width ≡ old.width
+  pub sound : old.failed ≡ false
+  pub stays_sound : new.failed ≡ false
 
--- what reading a row answers and leaves: a row that is there, the end, or a row of another width
+-- row n was read and has another width than row 1
+pub record RefusesRow (n : ℕ) (old new : RowsRead) : Type 0 where
+  pub bad : bad_rest old ≡ Some n
+  pub rest : old.rest ≡ new.row ∷ new.rest
+  pub number : new.number ≡ n
+  pub next : n ≡ old.number + 1
+  pub width : new.width ≡ old.width
+  pub sound : old.failed ≡ false
+  pub stays_sound : new.failed ≡ false
+
+-- what reading a row answers and leaves: a row that is there, the end, or a row of another width; once memory ran out, that again
 abbrev pub ReadsRow : Result Bool RowFault → RowsRead → RowsRead → Type 0
 ReadsRow (Ok true) old new = TakesRow old new
 ReadsRow (Ok false) old new = EndsRows old new
-ReadsRow (Err (fault.BadWidth n)) old new = bad_rest old ≡ Some n
-ReadsRow (Err fault.NoMemory) old new = Unit {0}
+ReadsRow (Err (fault.BadWidth n)) old new = RefusesRow n old new
+ReadsRow (Err fault.NoMemory) old new = new.failed ≡ true
 
 -- what reading all rows that are left answers
 abbrev pub ReadsRest : Result (Unit {0}) RowFault → RowsRead → Type 0
-ReadsRest (Ok x) old = bad_rest old ≡ None
-ReadsRest (Err (fault.BadWidth n)) old = bad_rest old ≡ Some n
+ReadsRest (Ok x) old = (bad_rest old ≡ None) × (old.failed ≡ false)
+ReadsRest (Err (fault.BadWidth n)) old = (bad_rest old ≡ Some n) × (old.failed ≡ false)
 ReadsRest (Err fault.NoMemory) old = Unit {0}
 
 -- the value of the rows that are left after the header, or their first fault: a row of another width comes first
@@ -78,6 +95,12 @@ abbrev pub rest_at : Progress → Reader (Bor (List ℕ)) → List Row
 rest_at progress.Reading reader = rest_of reader.state (left_of reader)
 rest_at progress.Ended reader = []
 rest_at progress.Failed reader = []
+
+-- memory ran out
+abbrev pub has_failed : Progress → Bool
+has_failed progress.Reading = false
+has_failed progress.Ended = false
+has_failed progress.Failed = true
 
 -- a reader of a text, between two records
 pub record Reads (reader : Reader (Bor (List ℕ))) (left : List ℕ) : Type 0 where

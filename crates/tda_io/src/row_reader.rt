@@ -35,11 +35,11 @@ impl<'a> Model for RowReader<'a> {
     ghost use Rattle.std.specs.Prelude.{◌≡◌};
     ghost use Rattle.csv.specs.Records.{fields_of};
     ghost use Rattle.tda_io.specs.declared.row_reader.Progress.TheVariants.{Reading};
-    ghost use Rattle.tda_io.specs.RowReading.{RowsRead, IsReading, rest_at};
+    ghost use Rattle.tda_io.specs.RowReading.{RowsRead, IsReading, rest_at, has_failed};
 
     ghost Value = { RowsRead };
 
-    ghost view = { λ r. record { row = fields_of r.row; number = r.number; width = r.width; rest = rest_at r.progress r.reader } };
+    ghost view = { λ r. record { row = fields_of r.row; number = r.number; width = r.width; rest = rest_at r.progress r.reader; failed = has_failed r.progress } };
 
     ghost invariant = { λ r. r.progress ≡ Reading → IsReading r.reader r.number };
 }
@@ -64,8 +64,8 @@ impl<'a> RowReader<'a> {
 
     /// Reads the next row, which is then the last that was read: false where there is none, and from then on.
     ///
-    /// `BadWidth` tells the number of the row where its number of fields isn't that of row 1. After `NoMemory` each
-    /// further call answers `NoMemory`.
+    /// `BadWidth` tells the number of the row where its number of fields isn't that of row 1; the row was read all the same.
+    /// After `NoMemory` each further call answers `NoMemory`.
     pub fn next_row(&mut self) -> Result<bool, RowFault>
         ensures { ReadsRow result self.old self.new }
     {

@@ -1,5 +1,6 @@
 pub mod Schema
 pub mod Cells
+pub mod Commons
 pub mod Groups
 pub mod Spine
 pub mod Tables

@@ -1,7 +1,7 @@
 -- How many places a release has, how large its fits are, and the limits.
-use Rattle.std.specs.Prelude.{ℕ, ◌+◌, ◌*◌, ◌^◌, ◌≤◌, Option, Some, None, length, sum_by, slice_get}
+use Rattle.std.specs.Prelude.{ℕ, ◌+◌, ◌*◌, ◌^◌, Option, Some, None, length, sum_by, slice_get}
 use Rattle.tda_model.specs.Schema.{Level, Schema}
-use Rattle.tda_model.specs.Cells.{cell_count, possible_cells}
+use Rattle.tda_model.specs.Cells.{possible_cells}
 use Rattle.tda_model.specs.Groups.{kind_count, classes_of, group_count}
 use Rattle.tda_model.specs.Spine.{Spine, level_of, units_at, unit_numbers, children_of}
 

@@ -125,5 +125,5 @@ module _ (s : Schema) (sp : Spine) (start : RowsRead) where
 pub tells_bad : (text : List ℕ) (now : RowsRead) (fault : RowFault) (r : Result (List ℤ) MeaFault) → IsErrAnd r (λ e. e ≡ fault_of fault) → ReadsRest (Err fault) now
     → bad_rest now ≡ bad_rest (unread text) → (s : Schema) (sp : Spine) → Gives NoMemory (λ x. x) r (read s sp text)
 tells_bad text now fault (Ok x) is told same s sp = absurd is
-tells_bad text now (row_fault.BadWidth n) (Err e) is told same s sp = λ other. text_bad (format s sp) text n (sym same ∙ told) ∙ ap Err (sym is)
+tells_bad text now (row_fault.BadWidth n) (Err e) is told same s sp = λ other. text_bad (format s sp) text n (sym same ∙ told.0) ∙ ap Err (sym is)
 tells_bad text now row_fault.NoMemory (Err e) is told same s sp = λ other. absurd (other is)

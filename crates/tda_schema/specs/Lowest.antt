@@ -1,22 +1,16 @@
--- Greatest common divisors, least common multiples, lowest terms, and the fraction whose text bytes are.
-use Rattle.std.specs.Prelude.{ℕ, suc, ◌+◌, ◌*◌, ◌/◌, ◌%◌, ◌^◌, ◌==◌, ◌&&◌, max, Bool, List, filter, find, fold, Option, Some, None, option_map, unwrap_or, nat_lt, if◌then◌else◌}
+-- Greatest common divisors, lowest terms, and the fraction whose text bytes are.
+use Rattle.std.specs.Prelude.{ℕ, suc, ◌+◌, ◌*◌, ◌/◌, ◌%◌, ◌^◌, ◌==◌, ◌&&◌, max, Bool, List, filter, fold, Option, Some, None, option_map, nat_lt, if◌then◌else◌}
 use Rattle.std.specs.Fmt.{decimal}
 use Rattle.std.specs.List.{list_any, before_first, after_first, range_with_len}
 use Rattle.std.specs.Str.{bytes_eq}
 use Rattle.std.specs.Str.Parse.{digits_value}
 use Rattle.tda_frac.specs.Fraction.{Fraction, slash}
-
--- whether d divides n
-abbrev pub divides : ℕ → ℕ → Bool
-divides d n = n % d == 0
+pub use Rattle.tda_model.specs.Commons.{divides}
+unfoldable pub use Rattle.tda_model.specs.Commons.{lcm}
 
 -- the greatest common divisor: of the numbers that divide both the greatest
 unfoldable pub gcd : ℕ → ℕ → ℕ
 gcd a b = fold max 0 (filter (λ d. divides d a && divides d b) (range_with_len 0 (a + b + 1)))
-
--- the least common multiple: the first number from 1 on that both divide
-unfoldable pub lcm : ℕ → ℕ → ℕ
-lcm a b = unwrap_or (find (λ m. divides a m && divides b m) (range_with_len 1 (a * b))) 0
 
 -- the same number in lowest terms
 unfoldable pub lowest : Fraction → Fraction

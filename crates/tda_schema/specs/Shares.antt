@@ -1,13 +1,14 @@
 -- The shares of a schema: which texts they are, their common denominator, and their sum.
 use Rattle.std.specs.Prelude.{ℕ, ◌*◌, ◌^◌, ◌≤◌, ◌&&◌, Bool, false, List, All, fold, length, Option, Some, None, nat_le, if◌then◌else◌}
 use Rattle.std.specs.Int.{◌∣◌}
-use Rattle.std.specs.List.{list_all, flat_map}
+use Rattle.std.specs.List.{list_all}
 use Rattle.std.specs.Option.{option_map_or}
 use Rattle.tda_frac.specs.Fraction as frac
 use Rattle.tda_model.specs.Schema.{Fraction, Query, Level, Schema}
 use Rattle.tda_schema.specs.Raw.{RawQuery, RawLevel, RawSchema}
 use Rattle.tda_schema.specs.Stated.{fraction_of}
-use Rattle.tda_schema.specs.Lowest.{lcm, lowest, fraction_in}
+use Rattle.tda_schema.specs.Lowest.{lowest, fraction_in}
+pub use Rattle.tda_model.specs.Commons.{queries_in, queries_of, common_after, common_of}
 
 -- at most 16
 abbrev pub is_total : frac.Fraction → Bool
@@ -44,13 +45,6 @@ pub record IsShare (f : Fraction) : Type 0 where
   pub some : 1 ≤ f.num
   pub most : f.num ≤ 16 * f.den
 
-abbrev pub queries_in : List Level → List Query
-queries_in levels = flat_map (λ l. l.queries) levels
-
--- all queries, in the order level, query
-abbrev pub queries_of : Schema → List Query
-queries_of s = queries_in s.levels
-
 abbrev pub QueriesArePaid : List Query → Type 0
 QueriesArePaid qs = All (λ q. IsShare q.share) qs
 
@@ -60,13 +54,6 @@ LevelsArePaid levels = All (λ l. QueriesArePaid l.queries) levels
 pub record IsPaid (s : Schema) : Type 0 where
   pub total : s.total.num ≤ 16 * s.total.den
   pub levels : LevelsArePaid s.levels
-
-abbrev pub common_after : ℕ → List Query → ℕ
-common_after common qs = fold (λ m q. lcm m q.share.den) common qs
-
--- the least common multiple of the shares' denominators
-abbrev pub common_of : Schema → ℕ
-common_of s = common_after 1 (queries_of s)
 
 -- m is a multiple of each share's denominator, and divides each other such number
 pub record IsLeastCommon (qs : List Query) (m : ℕ) : Type 0 where

@@ -1,9 +1,9 @@
 -- What an accepted spine keeps, and its lists.
-use Rattle.std.specs.Prelude.{ℕ, true, ◌≡◌, ◌+◌, ◌<◌, ◌≤◌, ◌^◌, length, List, map, [], ◌∷◌, ◌++◌, slice_index_or, Option, position, if◌then◌else◌}
+use Rattle.std.specs.Prelude.{ℕ, true, ◌≡◌, ◌+◌, ◌<◌, ◌≤◌, ◌^◌, length, List, map, [], ◌∷◌, ◌++◌, slice_index_or, take, Contains, Option, Some, position, if◌then◌else◌}
 use Rattle.std.specs.List.{range_with_len}
 use Rattle.std.specs.Str.{bytes_eq}
 use Rattle.tda_io.specs.Texts.{name_test}
-use Rattle.tda_model.specs.Spine.{Spine, SpineUnit, IsUnit, IsTree, level_of, nation_of, code_of, unit_numbers, is_over, children_of, units_at, blocks_of}
+use Rattle.tda_model.specs.Spine.{Spine, SpineUnit, IsUnit, IsTree, level_of, parent_of, nation_of, code_of, unit_numbers, is_over, children_of, units_at, blocks_of}
 
 -- the spine of these units
 abbrev pub spine_of : ℕ → List SpineUnit → Spine
@@ -21,6 +21,10 @@ pub record IsSound (sp : Spine) : Type 0 where
 pub record IsInner (sp : Spine) (u : ℕ) : Type 0 where
   pub here : IsUnit sp u
   pub above : level_of sp u + 1 < sp.depth
+
+-- each unit's parent stands before it
+abbrev pub FollowParents : Spine → List ℕ → Type 0
+FollowParents sp us = (k p : ℕ) → k < length us → parent_of sp (slice_index_or us k 0) ≡ Some p → Contains (take k us) p
 
 -- the first unit of a code
 abbrev pub unit_named : Spine → List ℕ → Option ℕ

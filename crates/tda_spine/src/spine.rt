@@ -1,8 +1,9 @@
 // An accepted spine and its readers.
-ghost use Rattle.std.specs.Prelude.{◌≡◌, ◌<◌, ◌≤◌, ◌^◌, ℕ, List, length, map, IfOk, IfSome, IfNone, IsNone, true, ◌↔◌};
+ghost use Rattle.std.specs.Prelude.{◌≡◌, ◌≢◌, ◌<◌, ◌≤◌, ◌^◌, ℕ, List, length, map, slice_get, Contains, Some, IfOk, IfSome, IfNone, IsNone, true, ◌↔◌};
+ghost use Rattle.std.specs.List.{AllPairs};
 ghost use Rattle.tda_io.specs.Texts.{name_test};
 ghost use Rattle.tda_model.specs.Spine.{IsUnit, level_of, parent_of, code_of, children_of, blocks_of, units_at, nation_of, parents_of};
-ghost use Rattle.tda_spine.specs.Sound.{spine_of, IsSound, unit_named};
+ghost use Rattle.tda_spine.specs.Sound.{spine_of, IsSound, IsInner, FollowParents, unit_named};
 
 use crate::tree::Tree;
 use crate::unit::SpineUnit;
@@ -145,7 +146,11 @@ impl Spine {
 
     /// The units with children, a unit before its children and children in file order.
     pub fn parents(&self) -> &[u32]
-        ensures { result.now ≡ parents_of self.now }
+        ensures value { result.now ≡ parents_of self.now }
+        ensures exact { (u : ℕ) → Contains result.now u ↔ IsInner self.now u }
+        ensures once { AllPairs (λ u v. u ≢ v) result.now }
+        ensures first { slice_get result.now 0 ≡ Some (nation_of self.now) }
+        ensures order { FollowParents self.now result.now }
     {
         self.tree.parents.as_slice()
     }

@@ -7,6 +7,7 @@ use Rattle.tda_groups.specs.Order.{AreGroups}
 use Rattle.tda_groups.specs.Tree.{Tree, place_in}
 use Rattle.tda_groups.proofs.LevelSets.{sources_rise, sources_nested, exact, count, whole_is, are_groups, cells_below, kinds_found, classes_found, groups_is}
 use Rattle.tda_groups.proofs.TreeFacts.{each_kind, each_class}
+use Rattle.tda_groups.proofs.OneTree.{groups_listed}
 use Rattle.tda_groups.proofs.group_tree.tree.Goals as goal
 use Rattle.tda_groups.proofs.group_tree.tree.Goals.{In_ok-source_sets, In_ok-groups}
 
@@ -104,4 +105,5 @@ returns c =
       whole = rw same (whole_is s l kinds over_all nested groups c.in_ok-groups.ensures.sets c.in_ok-groups.ensures.ordered (gathered d));
       each_kind = each_kind s l t in_order exact kind_places;
       each_class = each_class s l t in_order exact over_all c.in_ok-classes.ensures;
+      listed = groups_listed c.in_ok-chains.chains in_order s l exact;
     }

@@ -8,7 +8,7 @@ use Rattle.tda_hist.proofs.counting.count.Goals as goal
 
 pub loop-place-init : goal.loop-place-init
 loop-place-init c =
-    rw c.parents-parents.ensures
+    rw c.parents-parents.ensures.value
     (counted_start c.args.schema.now c.args.spine.now c.units.ensures.sound.tree c.args.records.now c.requires c.in_ok-tables.tables c.in_ok-tables.ensures)
 
 pub sum_children-requires-clause-tables : goal.sum_children-requires-clause-tables
@@ -17,24 +17,24 @@ sum_children-requires-clause-tables c = c.loop-place.invariant.counted
 pub sum_children-requires-clause-unit : goal.sum_children-requires-clause-unit
 sum_children-requires-clause-unit c =
     let t = c.units.ensures.sound.tree in
-    let within = rw c.parents-parents.ensures at c.loop-place.auto.place in
-    rw c.parents-parents.ensures
+    let within = rw c.parents-parents.ensures.value at c.loop-place.auto.place in
+    rw c.parents-parents.ensures.value
     (parent_here c.args.schema.now c.args.spine.now (true_count c.args.spine.now c.args.records.now) t (true_split c.args.spine.now t c.args.records.now)
     c.loop-place.place c.loop-place-test.true within c.loop-place.tables c.loop-place.invariant)
 
 pub sum_children-requires-clause-room : goal.sum_children-requires-clause-room
 sum_children-requires-clause-room c = λ j l.
     let t = c.units.ensures.sound.tree in
-    let within = rw c.parents-parents.ensures at c.loop-place.auto.place in
+    let within = rw c.parents-parents.ensures.value at c.loop-place.auto.place in
     let is = children_sum c.args.schema.now c.args.spine.now (true_count c.args.spine.now c.args.records.now) t (true_split c.args.spine.now t c.args.records.now)
     c.loop-place.place c.loop-place-test.true within c.loop-place.tables c.loop-place.invariant j l in
-    rw c.parents-parents.ensures (rw is (counted_limit c.args.spine.now c.args.records.now c.requires.few _ j))
+    rw c.parents-parents.ensures.value (rw is (counted_limit c.args.spine.now c.args.records.now c.requires.few _ j))
 
 pub loop-place-preserved : goal.loop-place-preserved
 loop-place-preserved c =
     let t = c.units.ensures.sound.tree in
-    let within = rw c.parents-parents.ensures at c.loop-place.auto.place in
-    let row = rw c.parents-parents.ensures at c.in_ok-sum_children.ensures in
+    let within = rw c.parents-parents.ensures.value at c.loop-place.auto.place in
+    let row = rw c.parents-parents.ensures.value at c.in_ok-sum_children.ensures in
     added_more c.args.schema.now c.args.spine.now (true_count c.args.spine.now c.args.records.now) t (true_split c.args.spine.now t c.args.records.now)
     c.loop-place.place c.loop-place-test.true within c.loop-place.tables c.loop-place.invariant c.sum_children.new.tables row
 

@@ -17,8 +17,8 @@ smallest-group-requires c =
 pub loop-groups-init : goal.loop-groups-init
 loop-groups-init c =
     let d = (goal.at.loop-groups-init c).After-self in
-    let within = smallest_within c.args.self.now (in_order d) c.args.set.now c.requires.some c.requires.known c.smallest-group.result c.smallest-group.ensures in
-    record { here = c.smallest-group.ensures.here; within = within }
+    let within = smallest_within c.args.self.now (in_order d) c.args.set.now c.requires.some c.requires.known c.smallest-group.result c.smallest-group.ensures.least in
+    record { here = c.smallest-group.ensures.least.here; within = within }
 
 -- the number that the loop's test reads
 size : (c : After-len) → c.len.result ≡ length (group_at c.args.self.now c.loop-groups.group)
@@ -32,7 +32,7 @@ unwrap-group-requires c =
     let d = (goal.at.unwrap-group-requires c).After-self in
     let e = size ((goal.at.unwrap-group-requires c).After-len) in
     let few : length (group_at c.args.self.now c.loop-groups.group) < length c.args.set.now = omega arith in
-    by (c.loop-groups.group ≡ 0) (IsNext c.args.self.now c.loop-groups.group) c.next.result c.next.ensures (not_whole c.args.self.now (in_order d) c.args.set.now c.requires.some c.requires.known c.loop-groups.group few)
+    by (c.loop-groups.group ≡ 0) (IsNext c.args.self.now c.loop-groups.group) c.next.result c.next.ensures.least (not_whole c.args.self.now (in_order d) c.args.set.now c.requires.some c.requires.known c.loop-groups.group few)
   where
     by : (P : Type 0) (Q : ℕ → Type 0) (o : Option ℕ) → MatchOption o P Q → (P → ⊥) → IsSome o
     by P Q (Some x) h never = search rules
@@ -46,7 +46,7 @@ loop-groups-preserved c =
     let g = c.loop-groups.group in
     let k = c.unwrap-group.result in
     let few : length (group_at groups g) < length c.args.set.now = omega arith in
-    let is : IsNext groups g k = MatchOption-at_some (g ≡ 0) (IsNext groups g) k c.unwrap-group.ensures c.next.ensures in
+    let is : IsNext groups g k = MatchOption-at_some (g ≡ 0) (IsNext groups g) k c.unwrap-group.ensures c.next.ensures.least in
     record {
       here = omega (arith, is.less, c.loop-groups.invariant.here);
       within = next_within groups (in_order d) c.args.set.now c.requires.some c.requires.known g k few c.loop-groups.invariant.within is;

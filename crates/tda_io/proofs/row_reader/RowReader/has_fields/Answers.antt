@@ -1,4 +1,4 @@
-use Rattle.std.proofs.Common.{◌≡◌, ◌∙◌, ◌∷◌, [], refl, sym}
+use Rattle.std.proofs.Common.{◌∙◌, ◌∷◌, [], refl, sym}
 use Rattle.std.proofs.lemmas.List.{length-map}
 use Rattle.tda_io.specs.Csv.{same_row}
 use Rattle.tda_io.proofs.Headers.{goes_on, same_row-long, stops, texts_of}

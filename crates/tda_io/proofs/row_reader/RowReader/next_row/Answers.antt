@@ -1,4 +1,4 @@
-use Rattle.std.proofs.Common.{◌≡◌, ◌<◌, ◌+◌, ◌∙◌, Some, ap, ◌∷◌, [], length, arith, refl, sym}
+use Rattle.std.proofs.Common.{◌≡◌, false, ◌<◌, ◌+◌, ◌∙◌, Some, ap, ◌∷◌, [], arith, refl, sym}
 use Rattle.csv.specs.Records.{fields_of}
 use Rattle.tda_io.specs.RowReading.{left_of, rest_of}
 use Rattle.tda_io.proofs.OneByOne.{differs, ended, ends, fits, goes_on, rest, takes}
@@ -11,7 +11,10 @@ returns-then-not-found c =
     let read = rw c.if-not-found.true at (c.in-Ok.ensures.reads reading.reads.plain reading.reads.ready) in
     let none = ended c.self.inside.reader c.read_byte_record.new.self c.self.inside.number (fields_of c.read_byte_record.new.row) reading read in
     let gone : c.args.self.now.rest ≡ [] = rw (← c.self.view_is, c.in-Reading.is) none in
-    ends c.args.self.now _ gone refl
+    let number : c.self.inside.number ≡ c.args.self.now.number = rw (← c.self.view_is) refl in
+    let width : c.self.inside.width ≡ c.args.self.now.width = rw (← c.self.view_is) refl in
+    let sound : c.args.self.now.failed ≡ false = rw (← c.self.view_is, c.in-Reading.is) refl in
+    ends c.args.self.now _ gone refl number width sound refl
 
 pub overflow_add-self : goal.overflow_add-self
 overflow_add-self c =
@@ -34,7 +37,16 @@ returns-then-len-self c =
     let is : c.args.self.now.rest ≡ fields_of c.read_byte_record.new.row ∷ rest_of c.read_byte_record.new.self.state (left_of c.read_byte_record.new.self) = rw (← c.self.view_is, c.in-Reading.is) one in
     let number : c.args.self.now.number ≡ c.self.inside.number = rw (← c.self.view_is) refl in
     let width : c.args.self.now.width ≡ c.self.inside.width = rw (← c.self.view_is) refl in
-    differs c.args.self.now _ _ is (omega (arith, c.if-self-gt1.true, number)) (λ e. c.if-len-self.true (c.len.ensures ∙ e ∙ width)) ∙ ap (λ n. Some (n + 1)) number
+    let sound : c.args.self.now.failed ≡ false = rw (← c.self.view_is, c.in-Reading.is) refl in
+    record {
+      bad = differs c.args.self.now _ _ is (omega (arith, c.if-self-gt1.true, number)) (λ e. c.if-len-self.true (c.len.ensures ∙ e ∙ width)) ∙ ap (λ n. Some (n + 1)) number;
+      rest = is ∙ rw c.in-Reading.is refl;
+      number = refl;
+      next = ap (λ n. n + 1) (sym number);
+      width = sym width;
+      sound = sound;
+      stays_sound = rw c.in-Reading.is refl;
+    }
 
 pub invariant_of-self-2 : goal.invariant_of-self-2
 invariant_of-self-2 c =
@@ -51,4 +63,4 @@ returns c =
       | else-self-gt1-via-then-self-gt1+else-len-self w ↦ c.len-self-inside.ensures ∙ sym w.len.ensures ∙ w.if-len-self.false
       | else-self-gt1-via-else-self-gt1 w ↦ absurd (omega (arith, some, w.if-self-gt1.false))
     ] in
-    rw (← c.self.view_is, c.in-Reading.is) (takes _ _ one refl c.len-self-inside.ensures same)
+    rw (← c.self.view_is, c.in-Reading.is) (takes _ _ one refl c.len-self-inside.ensures same refl refl)
