@@ -9,6 +9,7 @@ use Rattle.std.proofs.lemmas.List.{get_or-map}
 use Rattle.std.proofs.lemmas.List.Elements.{recursion_from_All}
 use Rattle.std.proofs.lemmas.List.Sums.{sum_by-cons}
 use Rattle.std.proofs.lemmas.Option.{slice_get-get_or}
+use Rattle.tda_model.specs.Commons.{common_of}
 use Rattle.tda_model.specs.Schema.{Schema, Level, Query}
 use Rattle.tda_model.specs.Groups.{class_cells, classes_of}
 use Rattle.tda_model.specs.Spine.{level_of}
@@ -118,11 +119,11 @@ module _ (i : Inputs) (l : Level) (t : Tree) (is : IsTreeOf i.schema l t) (curve
 
   -- each class counts at its own group alone
   at_own : (q : Query) (n c : ℕ) → AreClasses q → Contains (classes_of s q) c
-      → below G (λ g. cond (bytes_eq (class_cells s q c) (group_at t.groups g)) (weight_of i.common q * curve (pos (sum_at g) -ℤ i.measured u n c)) 0)
-      ≡ weight_of i.common q * curve (pos (sum_by y (class_cells s q c)) -ℤ i.measured u n c)
+      → below G (λ g. cond (bytes_eq (class_cells s q c) (group_at t.groups g)) (weight_of (common_of i.schema) q * curve (pos (sum_at g) -ℤ i.measured u n c)) 0)
+      ≡ weight_of (common_of i.schema) q * curve (pos (sum_by y (class_cells s q c)) -ℤ i.measured u n c)
   at_own q n c are found =
       let own = are c found in
-      let f : ℕ → ℕ = λ g. weight_of i.common q * curve (pos (sum_at g) -ℤ i.measured u n c) in
+      let f : ℕ → ℕ = λ g. weight_of (common_of i.schema) q * curve (pos (sum_at g) -ℤ i.measured u n c) in
       below_same G _ (λ g. cond (eqb g own.0) (f g) 0) (λ g lg. elim (cases_Bool (bytes_eq (class_cells s q c) (group_at t.groups g))) [
         | inl same ↦
             let e : g ≡ own.0 = same_group t.groups is.groups g own.0 lg own.1 (sym ((bytes_eq-Decides (class_cells s q c) (group_at t.groups g)).0 same) ∙ sym own.2) in
@@ -131,23 +132,23 @@ module _ (i : Inputs) (l : Level) (t : Tree) (is : IsTreeOf i.schema l t) (curve
             let same = (bytes_eq-Decides (class_cells s q c) (group_at t.groups g)).1 (sym own.2 ∙ ap (group_at t.groups) (sym e)) in absurd cc)))
       ])
       ∙ below_one G own.0 f own.1
-      ∙ ap (λ cells. weight_of i.common q * curve (pos (sum_by y cells) -ℤ i.measured u n c)) own.2
+      ∙ ap (λ cells. weight_of (common_of i.schema) q * curve (pos (sum_by y cells) -ℤ i.measured u n c)) own.2
 
   query_value : (q : Query) (n g : ℕ) → terms_value curve (query_terms i u n q (group_at t.groups g)) (sum_at g)
-      ≡ sum_by (λ c. cond (bytes_eq (class_cells s q c) (group_at t.groups g)) (weight_of i.common q * curve (pos (sum_at g) -ℤ i.measured u n c)) 0) (classes_of s q)
+      ≡ sum_by (λ c. cond (bytes_eq (class_cells s q c) (group_at t.groups g)) (weight_of (common_of i.schema) q * curve (pos (sum_at g) -ℤ i.measured u n c)) 0) (classes_of s q)
   query_value q n g =
-      sum_map (term_value curve (sum_at g)) (λ c. record { weight = weight_of i.common q; target = i.measured u n c }) (filter (λ c. bytes_eq (class_cells s q c) (group_at t.groups g)) (classes_of s q))
-      ∙ sum_filter (λ c. weight_of i.common q * curve (pos (sum_at g) -ℤ i.measured u n c)) (λ c. bytes_eq (class_cells s q c) (group_at t.groups g)) (classes_of s q)
+      sum_map (term_value curve (sum_at g)) (λ c. record { weight = weight_of (common_of i.schema) q; target = i.measured u n c }) (filter (λ c. bytes_eq (class_cells s q c) (group_at t.groups g)) (classes_of s q))
+      ∙ sum_filter (λ c. weight_of (common_of i.schema) q * curve (pos (sum_at g) -ℤ i.measured u n c)) (λ c. bytes_eq (class_cells s q c) (group_at t.groups g)) (classes_of s q)
 
-  query_is : (q : Query) (n : ℕ) → AreClasses q → below G (λ g. terms_value curve (query_terms i u n q (group_at t.groups g)) (sum_at g)) ≡ query_deviation curve s i.common q (i.measured u n) y
+  query_is : (q : Query) (n : ℕ) → AreClasses q → below G (λ g. terms_value curve (query_terms i u n q (group_at t.groups g)) (sum_at g)) ≡ query_deviation curve s (common_of i.schema) q (i.measured u n) y
   query_is q n are =
-      let f : ℕ → ℕ → ℕ = λ g c. cond (bytes_eq (class_cells s q c) (group_at t.groups g)) (weight_of i.common q * curve (pos (sum_at g) -ℤ i.measured u n c)) 0 in
+      let f : ℕ → ℕ → ℕ = λ g c. cond (bytes_eq (class_cells s q c) (group_at t.groups g)) (weight_of (common_of i.schema) q * curve (pos (sum_at g) -ℤ i.measured u n c)) 0 in
       below_same G _ (λ g. sum_by (f g) (classes_of s q)) (λ g lg. query_value q n g)
       ∙ sum_swap f (range_with_len 0 G) (classes_of s q)
-      ∙ sum_same _ (λ c. weight_of i.common q * curve (pos (sum_by y (class_cells s q c)) -ℤ i.measured u n c)) (classes_of s q)
+      ∙ sum_same _ (λ c. weight_of (common_of i.schema) q * curve (pos (sum_by y (class_cells s q c)) -ℤ i.measured u n c)) (classes_of s q)
       (recursion_from_All _ (classes_of s q) (All-from_Contains _ (classes_of s q) (λ c found. at_own q n c are found)))
 
-  queries_are : (n : ℕ) (qs : List Query) → Each AreClasses qs → below G (λ g. terms_value curve (terms_from i u n qs (group_at t.groups g)) (sum_at g)) ≡ deviation_from curve s i.common n qs (i.measured u) y
+  queries_are : (n : ℕ) (qs : List Query) → Each AreClasses qs → below G (λ g. terms_value curve (terms_from i u n qs (group_at t.groups g)) (sum_at g)) ≡ deviation_from curve s (common_of i.schema) n qs (i.measured u) y
   queries_are n [] h = sum_zero (range_with_len 0 G)
   queries_are n (q ∷ qs) h =
       let f : ℕ → ℕ = λ g. terms_value curve (query_terms i u n q (group_at t.groups g)) (sum_at g) in
@@ -159,15 +160,15 @@ module _ (i : Inputs) (l : Level) (t : Tree) (is : IsTreeOf i.schema l t) (curve
       both : (a b c d : ℕ) → a ≡ b → c ≡ d → a + c ≡ b + d
       both a b c d h k = omega arith
 
-  pub unit_value : below (length t.groups) (λ g. terms_value curve (terms_of i l u (group_at t.groups g)) (group_sum t.groups y g)) ≡ deviation curve i.schema i.common l (i.measured u) y
+  pub unit_value : below (length t.groups) (λ g. terms_value curve (terms_of i l u (group_at t.groups g)) (group_sum t.groups y g)) ≡ deviation curve i.schema (common_of i.schema) l (i.measured u) y
   unit_value = queries_are 0 l.queries (recursion_from_All AreClasses l.queries (λ k d below c found.
       placed t.groups (class_at t k c) (class_cells s (get_or l.queries k d) c) (is.each_class k c (get_or l.queries k d) (slice_get-get_or l.queries k d below) found)))
 
 -- the level's deviation, where the unit's level is this one
 pub level_value : (curve : ℤ → ℕ) (i : Inputs) (u level : ℕ) (y : Table) → level_of i.spine u ≡ level → level < length i.schema.levels
-    → deviation_at curve i u y ≡ deviation curve i.schema i.common (level_at i.schema level) (i.measured u) y
+    → deviation_at curve i u y ≡ deviation curve i.schema (common_of i.schema) (level_at i.schema level) (i.measured u) y
 level_value curve i u level y e low =
-    let pick : Option Level → ℕ = λ o. elim o as (λ _. ℕ) [ Some l ↦ deviation curve i.schema i.common l (i.measured u) y | None ↦ 0 ] in
+    let pick : Option Level → ℕ = λ o. elim o as (λ _. ℕ) [ Some l ↦ deviation curve i.schema (common_of i.schema) l (i.measured u) y | None ↦ 0 ] in
     ap (λ k. pick (slice_get i.schema.levels k)) e ∙ ap pick (slice_get-get_or i.schema.levels level (record { name = []; queries = [] }) low)
 
 -- ---- a curve of whole numbers that are not negative

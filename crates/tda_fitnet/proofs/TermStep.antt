@@ -8,7 +8,7 @@ use Rattle.tda_model.specs.Groups.{classes_of, class_cells}
 use Rattle.tda_model.specs.Deviation.{weight_of}
 use Rattle.tda_model.specs.Spine.{Spine, IsUnit, level_of}
 use Rattle.tda_schema.specs.Stated.{level_at, queries_at, query_at, class_of}
-use Rattle.tda_schema.specs.Shares.{common_of}
+use Rattle.tda_model.specs.Commons.{common_of}
 use Rattle.tda_invar.specs.Known.{JoinedLists}
 use Rattle.tda_groups.specs.Order.{group_at}
 use Rattle.tda_groups.specs.Tree.{Tree, IsTreeOf, IsGroupAt, class_at}
@@ -41,7 +41,7 @@ module _ (s : Schema) (sp : Spine) (ms : List ℤ) (t : Tree) (unit level : ℕ)
 
   -- classes alone speak of nothing but the schema
   plain : Inputs
-  plain = record { schema = s; common = 0; spine = sp; known = record { facilities = λ b k. 0; most = λ b k. 0; total = λ st. 0 }; measured = λ u n c. pos 0 }
+  plain = record { schema = s; spine = sp; known = record { facilities = λ b k. 0; most = λ b k. 0; total = λ st. 0 }; measured = λ u n c. pos 0 }
 
   found : Contains (classes_of s q) class
   unfolding plain

@@ -3,6 +3,7 @@ use Rattle.std.proofs.Common.{◌≡◌, ℕ, zero, suc, ◌+◌, ◌<◌, ◌�
 use Rattle.std.proofs.lemmas.Bool.{cases_Bool}
 use Rattle.std.proofs.lemmas.List.{append-nil, append_assoc, length-map}
 use Rattle.std.proofs.lemmas.List.Elements.{All-contains, All-from_recursion}
+use Rattle.tda_model.specs.Commons.{common_of}
 use Rattle.tda_model.specs.Schema.{Query, Level}
 use Rattle.tda_model.specs.Release.{Inputs}
 use Rattle.tda_model.proofs.Sums.{Ascends}
@@ -57,7 +58,7 @@ pub one_term : (i : Inputs) (l : Level) (t : Tree) → IsTreeOf i.schema l t →
     → length (query_terms i unit n q (group_at t.groups g)) ≤ 1
 one_term i l t is g low unit n q over_all =
     let has : ℕ → Bool = λ c. bytes_eq (class_cells i.schema q c) (group_at t.groups g) in
-    subst (λ m. m ≤ 1) (sym (length-map (filter has (classes_of i.schema q)) (λ c. record { weight = weight_of i.common q; target = i.measured unit n c })))
+    subst (λ m. m ≤ 1) (sym (length-map (filter has (classes_of i.schema q)) (λ c. record { weight = weight_of (common_of i.schema) q; target = i.measured unit n c })))
     (filter_few has (classes_of i.schema q) (first_cell (group_at t.groups g)) (classes_ascend i l t is g low unit n q over_all)
     (λ d found here. named_first i l t is g low unit n q over_all d found ((bytes_eq-Decides (class_cells i.schema q d) (group_at t.groups g)).0 here)))
 

@@ -6,3 +6,4 @@ pub mod Fits
 pub mod NamedNetwork
 pub mod Inputs
 pub mod FitNetwork
+pub mod Rows

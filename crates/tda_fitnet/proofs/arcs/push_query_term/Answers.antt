@@ -3,7 +3,7 @@ use Rattle.std.proofs.Common.{◌++◌, ◌∷◌, [], cond, length, sym, ap, �
 use Rattle.std.specs.Int.{w64}
 use Rattle.std.proofs.lemmas.Int.{ints, to_z-of_z}
 use Rattle.tda_schema.specs.Stated.{level_at, queries_at, query_at}
-use Rattle.tda_schema.specs.Shares.{common_of}
+use Rattle.tda_model.specs.Commons.{common_of}
 use Rattle.tda_model.specs.Spine.{level_of}
 use Rattle.tda_model.specs.Deviation.{weight_of}
 use Rattle.tda_places.specs.Places.{place}
