@@ -8,8 +8,9 @@ use tda_schema::Schema;
 use tda_spine::Spine;
 
 // How many cells are possible.
-fn count_possible(schema: &Schema) -> u64
-    ensures { result ≡ length (possible_cells schema.now) }
+pub(crate) fn count_possible(schema: &Schema) -> u64
+    ensures count { result ≡ length (possible_cells schema.now) }
+    ensures few { result ≤ 2 ^ 12 }
 {
     let mut count = 0;
     for cell in 0..schema.cells() {

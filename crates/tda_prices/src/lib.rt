@@ -2,8 +2,12 @@
 #![tactic(auto)]
 
 mod count;
+mod counted;
 mod fault;
+mod judge;
+mod place;
 mod prices;
+mod ranks;
 mod reader;
 mod tables;
 mod writer;
@@ -14,3 +18,6 @@ pub use prices::Prices;
 pub use reader::read_prices;
 pub use tables::read_tables;
 pub use writer::{write_prices, write_prices_header};
+
+#[cfg(test)]
+mod tests;
