@@ -6,3 +6,6 @@ pub mod Fits
 pub mod NamedNetwork
 pub mod Inputs
 pub mod FitNetwork
+pub mod Rows
+pub mod GroupFlows
+pub mod Giving

@@ -2,7 +2,7 @@
 ghost use Rattle.std.specs.Prelude.{◌≡◌, ◌<◌};
 ghost use Rattle.tda_flow.specs.Network.{IsSound};
 ghost use Rattle.tda_fitnet.specs.Layout.{arc_number};
-ghost use Rattle.tda_fitnet.specs.FitNetwork.{HasLayout, net_at, name_at};
+ghost use Rattle.tda_fitnet.specs.FitNetwork.{HasLayout, IsKept, net_at, name_at};
 
 use crate::layout::Layout;
 use crate::name::ArcName;
@@ -35,6 +35,19 @@ impl Model for FitNet {
 }
 
 impl FitNet {
+    /// A network of named arcs.
+    pub(crate) fn new(layout: Layout, named: NamedNet, cells: Vec<u32>, all_cells: u32) -> FitNet
+        requires { IsKept layout named cells.items all_cells }
+        ensures { result ≡ record { layout = layout; arcs = named.arcs; cells = cells.items; all_cells = all_cells } }
+    {
+        FitNet {
+            layout,
+            named,
+            cells,
+            all_cells,
+        }
+    }
+
     /// The net: one flow for each arc, and one price for each node.
     pub fn net(&self) -> &Net
         ensures value { result.now ≡ net_at self.now }
