@@ -7,3 +7,5 @@ pub mod NamedNetwork
 pub mod Inputs
 pub mod FitNetwork
 pub mod Rows
+pub mod GroupFlows
+pub mod Giving

@@ -4,6 +4,8 @@
 mod arcs;
 mod bounds;
 mod fit_net;
+mod group_flows;
+mod giving;
 mod layout;
 mod name;
 mod named_net;
