@@ -5,7 +5,6 @@ use Rattle.tda_model.specs.Spine.{Spine, unit_numbers}
 use Rattle.tda_model.specs.Tables.{Tables, Published}
 use Rattle.tda_model.specs.Deviation.{square}
 use Rattle.tda_model.specs.Release.{Inputs, IsRelease, deviation_at}
-use Rattle.tda_schema.specs.Shares.{common_of}
 use Rattle.tda_schema.specs.Stated.{level_at}
 use Rattle.tda_spine.specs.Judged.{fits_of}
 use Rattle.tda_places.specs.Places.{place}
@@ -21,7 +20,6 @@ use Rattle.tda_tool.specs.Ending.{Ending, fit_ending}
 abbrev pub inputs_by : Schema → Spine → Published → List ℤ → Inputs
 inputs_by s sp known m = record {
   schema = s;
-  common = common_of s;
   spine = sp;
   known = known;
   measured = λ unit query class. measured_at s sp m (place unit query class);
