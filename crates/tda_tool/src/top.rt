@@ -11,6 +11,7 @@ use crate::answer::Answer;
 use crate::prepare::prepare;
 use crate::publish::{publish, tell_memory};
 use std::alloc::Global;
+use tda_command::Command;
 use tda_io::{Inbox, NoMemory, OutFault, Outbox};
 
 // Prepares the answer and publishes it.

@@ -3,7 +3,6 @@ use Rattle.tda_model.specs.Release.{IsRelease}
 use Rattle.tda_loss.specs.declared.Curve.TheVariants.{Square}
 use Rattle.tda_fitnet.specs.Fits.{curve_of}
 use Rattle.tda_invar.specs.Known.{known_of}
-use Rattle.tda_descent.proofs.Released.{released}
 use Rattle.tda_tool.specs.Fitting.{inputs_by}
 use Rattle.tda_tool.proofs.Kept.{all_taken, next_takes}
 use Rattle.tda_tool.proofs.Releasing.{texts_released}
