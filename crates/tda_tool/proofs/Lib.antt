@@ -17,6 +17,7 @@ pub mod Surveyed
 pub mod Prepared
 pub mod Squares
 pub mod UnitsHere
+pub mod FitSizes
 pub mod Folded
 pub mod PriceCounts
 pub mod Kept

@@ -1,5 +1,5 @@
 -- What a file of words and a seed give.
-use Rattle.std.proofs.Common.{◌≡◌, ◌≢◌, ◌≤◌, ◌%◌, ◌^◌, ◌&&◌, ℕ, ℤ, pos, negsuc, Bool, true, false, cond, List, length, codes, refl, ap, subst, sym, inl, arith, eq-eqb, ne_eqb, nat_le, Option, Some, None, unwrap_or, option_and_then, IfSome, Result, Ok, Err}
+use Rattle.std.proofs.Common.{◌≡◌, ◌≢◌, ◌≤◌, ◌%◌, ◌^◌, ◌&&◌, ℕ, ℤ, pos, negsuc, Bool, true, false, cond, List, length, codes, refl, ap, subst, sym, inr, arith, eq-eqb, ne_eqb, nat_le, Option, Some, None, unwrap_or, option_and_then, IfSome, Result, Ok, Err}
 use Rattle.std.proofs.lemmas.Bool.{leb-true}
 use Rattle.rand_chacha.specs.ChaCha.{key_of}
 use Rattle.tda_io.specs.Texts.{int_of}

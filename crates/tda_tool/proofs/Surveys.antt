@@ -1,5 +1,5 @@
 -- The files of `measure`, one after the other.
-use Rattle.std.proofs.Common.{◌≡◌, refl, arith, List, ℕ, length, Option, Some, option_map, slice_get, Result, Ok, Err, codes}
+use Rattle.std.proofs.Common.{◌≡◌, refl, arith, List, ℕ, length, Option, Some, None, ap, option_map, slice_get, Result, Ok, Err, codes}
 use Rattle.std.specs.Result.{IsErrAnd}
 use Rattle.tda_io.specs.Due.{◌>>=◌}
 use Rattle.tda_io.specs.Outside.{Shelf, asks}
@@ -26,7 +26,7 @@ use Rattle.tda_tool.specs.declared.reading.File.TheVariants as file
 use Rattle.tda_tool.specs.declared.reading.Stop.{Stop}
 use Rattle.tda_tool.proofs.Asked.{file_within}
 use Rattle.tda_tool.proofs.Stops.{From, HasRead, read_on, halted, part_read, asks_stopped, asks_file_stopped}
-use Rattle.tda_tool.proofs.Beside.{accepted_beside, refused_beside}
+use Rattle.tda_tool.proofs.Beside.{and_beside, accepted_beside, refused_beside}
 use Rattle.tda_tool.proofs.Agreed.{same_due}
 use Rattle.tda_tool.proofs.Fitted.{reads_at}
 
@@ -64,6 +64,18 @@ module _ (words : List (List ℕ)) (b : Base) where
     tables_disagree e (Err x) same judges =
         let judged : Judges {X = Unit {0}} file.Records (hist_text b.schema b.spine) (agrees rs) (Err e) = by_table (Unit {0}) (Err e) judges in
         rw same (refused_beside words file.Records records_file (hist_text b.schema b.spine) agrees (Unit {0}) shelf rs e gives judged)
+
+  -- records that aren't read
+  unread : (shelf : Option Shelf) (e : Stop) → GivesFile {A = List Record} words file.Records records_text (records.read b.schema b.spine) shelf (Err e) → GivesBy {A = List Record} words file.Records (records_from b) shelf (Err e)
+  unread shelf stop.NoMemory gives = tt
+  unread shelf (stop.Read g) gives = gives
+  unread None (stop.Refused r) gives = (gives.0, gives.1, tt)
+  unread (Some h) (stop.Refused r) gives = (gives.0, gives.1, ap (λ o. o >>= and_beside words file.Records records_file (hist_text b.schema b.spine) agrees) gives.2)
+
+  pub tables_unread : (shelf : Option Shelf) (e : Stop) (r : Result Counts Stop) → IsErrAnd r (λ x. x ≡ e)
+      → GivesFile {A = List Record} words file.Records records_text (records.read b.schema b.spine) shelf (Err e) → GivesTables words b shelf r
+  tables_unread shelf e (Ok cs) same gives = absurd same
+  tables_unread shelf e (Err x) same gives = rw same (unread shelf e gives)
 
 -- ---- all files
 

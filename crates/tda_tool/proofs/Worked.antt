@@ -31,8 +31,14 @@ facilities = pair (codes "--facilities") (codes "c")
 abbrev totals : List (List ℕ)
 totals = pair (codes "--totals") (codes "d")
 
+abbrev measurements : List (List ℕ)
+measurements = pair (codes "--measurements") (codes "m")
+
+abbrev prices : List (List ℕ)
+prices = pair (codes "--prices") (codes "p")
+
 abbrev fit : List (List ℕ) → List (List ℕ)
-fit tables = codes "fit" ∷ schema ++ spine ++ facilities ++ totals ++ tables
+fit tables = codes "fit" ∷ schema ++ spine ++ facilities ++ totals ++ measurements ++ prices ++ tables
 
 abbrev words : List (List ℕ)
 words = fit (pair (codes "--tables") (codes "e"))
@@ -40,13 +46,13 @@ words = fit (pair (codes "--tables") (codes "e"))
 a_command : command_of words ≡ Some Fit
 a_command = refl
 
-any_order : command_of (codes "fit" ∷ pair (codes "--tables") (codes "e") ++ totals ++ schema ++ facilities ++ spine) ≡ Some Fit
+any_order : command_of (codes "fit" ∷ pair (codes "--tables") (codes "e") ++ totals ++ schema ++ prices ++ facilities ++ measurements ++ spine) ≡ Some Fit
 any_order = refl
 
-read : reads_of words ≡ codes "a" ∷ codes "b" ∷ codes "c" ∷ codes "d" ∷ []
+read : reads_of words ≡ codes "a" ∷ codes "b" ∷ codes "c" ∷ codes "d" ∷ codes "m" ∷ []
 read = refl
 
-written : writes_of words ≡ codes "e" ∷ []
+written : writes_of words ≡ codes "e" ∷ codes "p" ∷ []
 written = refl
 
 -- a value is one by its place
@@ -56,13 +62,13 @@ by_place = refl
 no_words : command_of [] ≡ None
 no_words = refl
 
-a_name_missing : command_of (codes "fit" ∷ schema ++ spine ++ totals ++ pair (codes "--tables") (codes "e")) ≡ None
+a_name_missing : command_of (codes "fit" ∷ schema ++ spine ++ totals ++ measurements ++ prices ++ pair (codes "--tables") (codes "e")) ≡ None
 a_name_missing = refl
 
-a_name_twice : command_of (codes "fit" ∷ schema ++ schema ++ facilities ++ totals ++ pair (codes "--tables") (codes "e")) ≡ None
+a_name_twice : command_of (codes "fit" ∷ schema ++ schema ++ facilities ++ totals ++ measurements ++ prices ++ pair (codes "--tables") (codes "e")) ≡ None
 a_name_twice = refl
 
-another_name : command_of (codes "fit" ∷ schema ++ spine ++ facilities ++ totals ++ pair (codes "--prices") (codes "e")) ≡ None
+another_name : command_of (fit (pair (codes "--ledger") (codes "e"))) ≡ None
 another_name = refl
 
 to_standard_output : command_of (fit (pair (codes "--tables") (codes "-"))) ≡ None

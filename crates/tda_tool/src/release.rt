@@ -1,12 +1,10 @@
 // The fits of a release, and their texts.
-ghost use Rattle.std.specs.Prelude.{◌≡◌, ◌≤◌, IfOk, IsTrue, OnOk, All, length};
-ghost use Rattle.tda_model.specs.Sizes.{fit_size};
-ghost use Rattle.tda_spine.specs.Judged.{IsWithinLimits, fits_of};
-ghost use Rattle.tda_descent.specs.Kept.{IsFormed};
+ghost use Rattle.std.specs.Prelude.{◌≡◌, IfOk};
+ghost use Rattle.tda_model.specs.Sizes.{nodes_limit, arcs_limit};
+ghost use Rattle.tda_invar.specs.Known.{known_of};
 ghost use Rattle.tda_tool.specs.Fitting.{inputs_by};
 ghost use Rattle.tda_tool.specs.Reading.{AreInputs};
-ghost use Rattle.tda_tool.specs.Texts.{AreHeaders, HasFit, AreTextsOf};
-ghost use Rattle.tda_invar.specs.Known.{known_of};
+ghost use Rattle.tda_tool.specs.Texts.{AreTextsOf};
 
 use std::alloc::Global;
 use tda_cancel::Cancel;
@@ -76,13 +74,11 @@ impl Texts {
 const NODES: u32 = 2048;
 const ARCS: usize = 65536;
 
-// A solver of the networks of all fits.
-fn solver_of(alloc: Global, schema: &Schema, spine: &Spine) -> Result<Cancel, NoMemory>
-    requires limits { IsWithinLimits schema.now spine.now }
-    ensures nodes { IfOk result (λ solver. All (λ fit. (fit_size schema.now spine.now fit).nodes ≤ solver.nodes) (fits_of spine.now)) }
-    ensures arcs { IfOk result (λ solver. All (λ fit. (fit_size schema.now spine.now fit).arcs ≤ solver.arcs) (fits_of spine.now)) }
+// A solver of the network of any fit.
+fn solver(alloc: Global) -> Result<Cancel, NoMemory>
+    ensures nodes { IfOk result (λ s. s.nodes ≡ nodes_limit) }
+    ensures arcs { IfOk result (λ s. s.arcs ≡ arcs_limit) }
 {
-    let _ = (schema, spine);
     Cancel::new(alloc, NODES, ARCS)
 }
 
@@ -97,7 +93,7 @@ pub(crate) fn release_texts(
     requires { AreInputs schema.now spine.now invariants.now measurements.now }
     ensures { IfOk result (AreTextsOf (inputs_by schema.now spine.now (known_of spine.now invariants.now) measurements.now)) }
 {
-    let mut solver = solver_of(alloc, schema, spine)?;
+    let mut solver = solver(alloc)?;
     let loss = Loss::new(Curve::Square, square);
     let mut texts = Texts::new(alloc)?;
     // The units are a tree.
