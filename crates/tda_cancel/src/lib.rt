@@ -11,6 +11,3 @@ mod tables;
 mod trace;
 
 pub use cancel::Cancel;
-
-#[cfg(test)]
-mod tests;

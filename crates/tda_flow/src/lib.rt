@@ -22,8 +22,3 @@ pub use solver::Solver;
 pub use terms::step_cost;
 pub use walk::move_along;
 pub use work::{Work, reach};
-
-#[cfg(test)]
-mod reach_tests;
-#[cfg(test)]
-mod tests;

@@ -10,6 +10,3 @@ mod whole;
 pub use frac::Frac;
 pub use memory::NoMemory;
 pub use whole::lcm;
-
-#[cfg(test)]
-mod tests;

@@ -8,6 +8,3 @@ mod order;
 mod sources;
 
 pub use group_tree::{GroupTree, tree};
-
-#[cfg(test)]
-mod tests;

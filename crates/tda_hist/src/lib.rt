@@ -13,6 +13,3 @@ pub use counting::count;
 pub use distance::square_distance;
 pub use fault::HistFault;
 pub use sums::{class_sum, state_totals};
-
-#[cfg(test)]
-mod tests;

@@ -25,6 +25,3 @@ pub use tot_fault::TotFault;
 pub use totals::Totals;
 pub use totals_reader::read_totals;
 pub use totals_writer::write_totals;
-
-#[cfg(test)]
-mod tests;

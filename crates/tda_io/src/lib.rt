@@ -18,6 +18,3 @@ pub use outside::{InFault, Inbox, NoMemory, OutFault, Outbox, PERSONS};
 pub use row_reader::RowReader;
 pub use rows::{RowFault, Rows, read_rows};
 pub use texts::{is_name, push_field, push_int, read_int};
-
-#[cfg(test)]
-mod tests;

@@ -10,6 +10,3 @@ pub use ledger::Ledger;
 pub use make::make_ledger;
 pub use row::LedgerRow;
 pub use write::write_ledger;
-
-#[cfg(test)]
-mod tests;

@@ -1,9 +1,6 @@
 //! Curves that weigh a distance, and functions kept beside the fact that they answer one.
 #![tactic(auto)]
 
-#[cfg(test)]
-mod tests;
-
 ghost use Rattle.std.specs.Prelude.{◌≡◌, ◌^◌};
 ghost use Rattle.tda_loss.specs.Curve.{value_of, step, IsWithin, IsCurve};
 ghost use Rattle.tda_loss.specs.Kept.{Answers, IsKept};

@@ -9,6 +9,3 @@ mod sums;
 
 pub use measuring::measure;
 pub use stop::MeasureStop;
-
-#[cfg(test)]
-mod tests;

@@ -14,6 +14,3 @@ pub use discrete_gaussian::gaussian;
 pub use discrete_laplace::laplace;
 pub use draw::Draw;
 pub use uniform::uniform_below;
-
-#[cfg(test)]
-mod tests;

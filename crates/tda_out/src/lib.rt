@@ -6,6 +6,3 @@ mod tables_writer;
 
 pub use tables::Tables;
 pub use tables_writer::{write_tables, write_tables_header};
-
-#[cfg(test)]
-mod tests;

@@ -15,6 +15,3 @@ pub use measurements::Measurements;
 pub use place::{Place, count, place_at};
 pub use reader::read_measurements;
 pub use writer::write_measurements;
-
-#[cfg(test)]
-mod tests;

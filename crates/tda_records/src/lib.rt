@@ -9,6 +9,3 @@ mod records;
 pub use fault::RecFault;
 pub use reader::read_records;
 pub use records::Records;
-
-#[cfg(test)]
-mod tests;

@@ -30,8 +30,3 @@ pub use fault::SchemaFault;
 pub use reader::read_schema;
 pub use readers::Schema;
 pub use texts::Texts;
-
-#[cfg(test)]
-mod document_tests;
-#[cfg(test)]
-mod tests;

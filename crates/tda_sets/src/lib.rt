@@ -8,6 +8,3 @@ mod nested;
 pub use counted::count_sets;
 pub use family::Family;
 pub use nested::{all_are_nested, are_nested};
-
-#[cfg(test)]
-mod tests;

@@ -17,6 +17,3 @@ mod whole;
 pub use fault::SpineFault;
 pub use read::read_spine;
 pub use spine::Spine;
-
-#[cfg(test)]
-mod tests;

@@ -8,6 +8,3 @@ mod words;
 pub use list_words::ListWords;
 pub use seed_words::SeedWords;
 pub use words::Words;
-
-#[cfg(test)]
-mod tests;

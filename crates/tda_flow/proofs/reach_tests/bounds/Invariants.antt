@@ -1,5 +1,0 @@
-use Rattle.std.proofs.Common.{◌≡◌, length}
-use Rattle.tda_flow.proofs.reach_tests.bounds.Given as goal
-
-abbrev pub invariant-loop-arc : goal.invariant-loop-arc
-invariant-loop-arc l = (length l.work.low ≡ 5) × (length l.work.ranks ≡ 5)
