@@ -7,7 +7,6 @@ ghost use Rattle.tda_tool.specs.Reading.{AreInputs};
 ghost use Rattle.tda_tool.specs.Texts.{AreTextsOf};
 
 use std::alloc::Global;
-use tda_cancel::Cancel;
 use tda_descent::{Fit, descend};
 use tda_invar::Invariants;
 use tda_io::NoMemory;
@@ -15,6 +14,7 @@ use tda_loss::{Curve, Loss, square};
 use tda_out::{write_tables, write_tables_header};
 use tda_places::Measurements;
 use tda_prices::{write_prices, write_prices_header};
+use tda_scale::Scale;
 use tda_schema::Schema;
 use tda_spine::Spine;
 
@@ -75,11 +75,11 @@ const NODES: u32 = 2048;
 const ARCS: usize = 65536;
 
 // A solver of the network of any fit.
-fn solver(alloc: Global) -> Result<Cancel, NoMemory>
+fn new_solver(alloc: Global) -> Result<Scale, NoMemory>
     ensures nodes { IfOk result (λ s. s.nodes ≡ nodes_limit) }
     ensures arcs { IfOk result (λ s. s.arcs ≡ arcs_limit) }
 {
-    Cancel::new(alloc, NODES, ARCS)
+    Scale::new(alloc, NODES, ARCS)
 }
 
 /// The files of a release: at each fit the tables are least ones, as its prices show.
@@ -93,7 +93,7 @@ pub(crate) fn release_texts(
     requires { AreInputs schema.now spine.now invariants.now measurements.now }
     ensures { IfOk result (AreTextsOf (inputs_by schema.now spine.now (known_of spine.now invariants.now) measurements.now)) }
 {
-    let mut solver = solver(alloc)?;
+    let mut solver = new_solver(alloc)?;
     let loss = Loss::new(Curve::Square, square);
     let mut texts = Texts::new(alloc)?;
     // The units are a tree.
