@@ -24,6 +24,7 @@ use Rattle.tda_command.specs.declared.words.Source.{Source}
 use Rattle.tda_command.specs.declared.words.Source.TheVariants as source
 use Rattle.tda_tool.specs.declared.reading.File.TheVariants as file
 use Rattle.tda_tool.specs.declared.reading.Stop.{Stop}
+use Rattle.tda_tool.specs.declared.reading.Stop.TheVariants as stop
 use Rattle.tda_tool.proofs.Asked.{file_within}
 use Rattle.tda_tool.proofs.Stops.{From, HasRead, read_on, halted, part_read, asks_stopped, asks_file_stopped}
 use Rattle.tda_tool.proofs.Beside.{and_beside, accepted_beside, refused_beside}

@@ -1,6 +1,7 @@
 // What `fit` answers.
 ghost use Rattle.std.specs.Prelude.{◌≡◌, IfOk};
 ghost use Rattle.tda_invar.specs.Known.{known_of};
+ghost use Rattle.tda_tool.specs.Ending.{fit_ending};
 ghost use Rattle.tda_tool.specs.Fitting.{inputs_by};
 ghost use Rattle.tda_tool.specs.Reading.{AreInputs};
 ghost use Rattle.tda_tool.specs.Answer.{IsFitted};
@@ -13,6 +14,14 @@ use tda_io::NoMemory;
 use tda_places::Measurements;
 use tda_schema::Schema;
 use tda_spine::Spine;
+
+// The line that tells how many fits were made, and their deviation.
+fn line(alloc: Global, spine: &Spine, deviation: u128) -> Result<Vec<u8>, NoMemory>
+    ensures { IfOk result (λ v. v.items ≡ (fit_ending spine.now deviation).report) }
+{
+    let fits = spine.parents().len() + 1;
+    Ok(format!(in alloc; "ok fit fits={fits} deviation={deviation}\n")?.into_bytes())
+}
 
 /// The tables, their prices, and how many fits there are, with their deviation.
 pub(crate) fn fitted(
@@ -27,10 +36,7 @@ pub(crate) fn fitted(
     ensures made { IfOk result (IsFitted (inputs_by schema.now spine.now (known_of spine.now invariants.now) measurements.now)) }
 {
     let texts = release_texts(alloc, schema, spine, invariants, measurements)?;
-    let fits = spine.parents().len() + 1;
-    let deviation = texts.deviation;
-    let report =
-        format!(in alloc; "ok fit fits={fits} deviation={deviation}\n")?.into_bytes();
+    let report = line(alloc, spine, texts.deviation)?;
     let mut outputs = Vec::new(alloc);
     outputs.push(Output {
         name: "tables",

@@ -12,4 +12,4 @@ returns-clause-tables g c =
 
 pub returns-in_err-records-clause-tables : goal.returns-in_err-records-clause-tables
 returns-in_err-records-clause-tables g c =
-    tables_unread (map string_bytes c.args.words.now) c.args.base.now _ _ _ c.from_residual-in_err-records.ensures.1 c.in_err-records.ensures.file
+    tables_unread (map string_bytes c.args.words.now) c.args.base.now _ _ _ c.from_residual.ensures.1 c.in_err-records.ensures.file

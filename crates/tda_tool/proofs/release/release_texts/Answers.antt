@@ -1,5 +1,6 @@
-use Rattle.std.proofs.Common.{rules, of_calls}
+use Rattle.std.proofs.Common.{rules, of_calls, subst}
 use Rattle.tda_invar.specs.Known.{known_of}
+use Rattle.tda_descent.specs.Fits.{AreFirstFits}
 use Rattle.tda_tool.specs.Fitting.{inputs_by}
 use Rattle.tda_tool.proofs.FitSizes.{nodes_fit, arcs_fit}
 use Rattle.tda_tool.proofs.Kept.{all_taken, next_takes}
@@ -23,7 +24,7 @@ returns-in-Ok c =
     let t = all_taken _ (λ k x next step. record { name = search (rules, of_calls); schema = search (rules, of_calls); spine = search (rules, of_calls); has = search (rules, of_calls) }) e.0 _ _ e.1 in
     let name = t.name in
     let i = inputs_by c.args.schema.now c.args.spine.now (known_of c.args.spine.now c.args.invariants.now) c.args.measurements.now in
-    let all = texts_released i c.units.ensures.sound e.0 e.2 e.3 c.in_ok-texts.texts c.descend-fitted.new.keep.0.now c.in_ok-texts.ensures t.has in
+    let all = texts_released i c.units.ensures.sound e.0 (subst (λ curve. AreFirstFits curve i e.0) c.new-loss.ensures.curve e.2) e.3 c.in_ok-texts.texts c.descend-fitted.new.keep.0.now c.in_ok-texts.ensures t.has in
     record {
       tables = all.tables;
       price = all.price;
