@@ -20,7 +20,9 @@ fn line(alloc: Global, spine: &Spine, deviation: u128) -> Result<Vec<u8>, NoMemo
     ensures { IfOk result (λ v. v.items ≡ (fit_ending spine.now deviation).report) }
 {
     let fits = spine.parents().len() + 1;
-    Ok(format!(in alloc; "ok fit fits={fits} deviation={deviation}\n")?.into_bytes())
+    let mut line = format!(in alloc; "ok fit fits={fits} deviation={deviation}")?.into_bytes();
+    line.push(b'\n')?;
+    Ok(line)
 }
 
 /// The tables, their prices, and how many fits there are, with their deviation.
