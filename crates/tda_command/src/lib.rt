@@ -3,6 +3,4 @@
 
 mod words;
 
-pub use words::{
-    Command, Number, Source, judge, number_of, source_of, value_named, value_of,
-};
+pub use words::{Command, Number, Source, judge, number_of, source_of, value_named, value_of};

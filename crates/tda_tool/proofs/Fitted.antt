@@ -12,7 +12,7 @@ use Rattle.tda_tool.specs.Fitting.{inputs_by}
 use Rattle.tda_tool.specs.Ending.{Ending}
 use Rattle.tda_tool.specs.Due.{Given, base_from, totals_from, measurements_from, inputs_from}
 use Rattle.tda_tool.specs.Files.{name_of, place_of_file, IsRead}
-use Rattle.tda_tool.specs.Reading.{path_of, GivesBy, GivesInvariants, AsksFile, Gathers, AsksFiles, ReadsInputs, GathersInputs, inputs_in}
+use Rattle.tda_tool.specs.Reading.{path_of, GivesBy, GivesInvariants, AsksFile, Gathers, AsksFiles, ReadsInputs, GathersInputs}
 use Rattle.tda_tool.specs.declared.base.Base.{Base}
 use Rattle.tda_tool.specs.declared.inputs.Inputs.{Inputs}
 use Rattle.tda_tool.specs.declared.reading.File.{File}
@@ -77,8 +77,7 @@ module _ (words : List (List ℕ)) where
       pub all_read : (new : Option Shelf) (m : List ℤ) → GivesBy words file.Measurements (measurements_from b.schema b.spine) next (Ok m) → new ≡ option_map (asks (path_of words file.Measurements)) next
           → Gathers words 5 inputs_from old (Ok (inputs_by b.schema b.spine (known b.spine inv.facilities inv.totals) m)) × AsksFiles {X = Inputs} words 5 old new (Ok (record { schema = b.schema; spine = b.spine; invariants = inv; measurements = m }))
       all_read new m gives_it asks_last =
-          let all = read_on words inputs_from file.Measurements (measurements_from b.schema b.spine) (with_measurements b inv.totals) old next new m reads.measurements totals_read gives_it asks_last in
-          (
+          let all = read_on words inputs_from file.Measurements (measurements_from b.schema b.spine) (with_measurements b inv.totals) old next new m reads.measurements totals_read gives_it asks_last in (
             subst (λ f. Gathers words 5 inputs_from old (Ok (inputs_by b.schema b.spine (known b.spine f inv.totals) m))) (sym gives.0) all.come,
             all.asked.asked,
           )

@@ -1,5 +1,5 @@
 -- The texts after fits were kept, one after the other.
-use Rattle.std.proofs.Common.{◌≡◌, ℕ, ◌+◌, ◌-◌, ◌^◌, ◌≤◌, min, List, [], ◌∷◌, ◌++◌, length, map, refl, sym, ap, ◌∙◌, subst, arith}
+use Rattle.std.proofs.Common.{◌≡◌, ℕ, ◌+◌, List, [], ◌∷◌, ◌++◌, length, refl, sym, ap, ◌∙◌, subst, arith}
 use Rattle.std.specs.List.{flat_map, sum_by, FoldsTo}
 use Rattle.std.proofs.lemmas.List.{append_assoc, append-nil}
 use Rattle.std.proofs.lemmas.List.Sums.{sum_by-append}
@@ -89,7 +89,7 @@ taken_none k = record {
   name = refl;
   schema = refl;
   spine = refl;
-  has = record { tables = sym (append-nil k.0.now.tables.items); prices = sym (append-nil k.0.now.prices.items); deviation = λ none. none ∙ no_sum; };
+  has = record { tables = sym (append-nil k.0.now.tables.items); prices = sym (append-nil k.0.now.prices.items); deviation = λ none. none ∙ no_sum };
 }
 
 -- calls that each take a fit take all of them

@@ -2,7 +2,6 @@
 use Rattle.std.proofs.Common.{◌≡◌, ◌≢◌, ◌∙◌, ◌++◌, ◌∷◌, ◌+◌, ◌⊎◌, [], List, ℕ, ℤ, length, take, refl, sym, ap, subst, Option, Some, None, IfSome, option_map, inl, inr, Result, Ok, Err, slice_index_or, arith}
 use Rattle.std.specs.Result.{IfOk}
 use Rattle.std.proofs.lemmas.List.{length-map}
-use Rattle.std.proofs.lemmas.Option.{get_or_from_slice_get}
 use Rattle.tda_io.specs.Due.{◌>>=◌}
 use Rattle.tda_io.specs.Outside.{Shelf, Tray}
 use Rattle.tda_model.specs.TablesText.{tables_text}
@@ -19,9 +18,9 @@ use Rattle.tda_model.specs.Release.{Inputs, IsRelease}
 use Rattle.tda_tool.specs.Fitting.{fitted_ending, pricing_text}
 use Rattle.tda_tool.specs.Measuring.{Survey, state_counts, noise_ending, stop_ending, measured_ending, MeasureEnds}
 use Rattle.tda_command.specs.Words.{command_of, form_in, reads_of, writes_of, read_names, write_names, pairs_after, values_in, dash}
-use Rattle.tda_tool.specs.Ending.{Ending, words_ending, refused_ending, read_ending}
-use Rattle.tda_tool.specs.Due.{Given, Task, Fits, Measures, EndsBy, Due, IsDue, IsDueStatus, task_of, task_by, due_task, inputs_from, survey_from, given_by, failing_at}
-use Rattle.tda_tool.specs.Outcome.{IsSettled, whole, asks_all, Leaves, LeavesReport, LeavesAll, ReportsDue, FitWrote, MeasureWrote, NoiseStopped, FileRefused, ReadFailed, AsksPrefix, BeginsPrefix, BeginsWhenDue}
+use Rattle.tda_tool.specs.Ending.{Ending, words_ending, refused_ending}
+use Rattle.tda_tool.specs.Due.{Given, Task, Fits, Measures, EndsBy, Due, IsDue, IsDueStatus, task_of, task_by, due_task, inputs_from, survey_from, given_by}
+use Rattle.tda_tool.specs.Outcome.{IsSettled, whole, asks_all, Leaves, LeavesAll, ReportsDue, FitWrote, MeasureWrote, NoiseStopped, FileRefused, ReadFailed, AsksPrefix, BeginsPrefix, BeginsWhenDue}
 use Rattle.tda_tool.specs.Files.{name_of, place_of_file, IsRead}
 use Rattle.tda_tool.specs.Answer.{status_by, Suits, SuitsBy, IsDone, HasInputs, HasSurvey, IsFitted, IsMeasured, StopsWith, RefusesFile, FailsAt, ReportsAlone, WritesNames, Asks, AsksBy, CountsBy, files_of, target_of, targets_of, status_of}
 use Rattle.tda_command.specs.declared.words.Command.{Command}

@@ -1,5 +1,5 @@
 -- The fits that a descent hands on are a release, with prices that certify it.
-use Rattle.std.proofs.Common.{◌≡◌, ◌≢◌, ℕ, zero, suc, ◌+◌, ◌*◌, ◌<◌, ◌≤◌, ◌^◌, All, Option, Some, None, List, [], ◌∷◌, length, map, take, refl, sym, ap, ◌∙◌, subst, arith, take_all}
+use Rattle.std.proofs.Common.{◌≡◌, ◌≢◌, ℕ, suc, ◌+◌, ◌*◌, ◌<◌, ◌≤◌, ◌^◌, Option, Some, None, List, [], ◌∷◌, length, map, take, refl, ap, ◌∙◌, subst, arith, take_all}
 use Rattle.std.specs.List.{sum_by}
 use Rattle.std.proofs.lemmas.List.{length-map}
 use Rattle.std.proofs.lemmas.List.FromFn.{length-range_with_len}
@@ -7,8 +7,6 @@ use Rattle.std.proofs.lemmas.List.Elements.{All-from_recursion, recursion_from_A
 use Rattle.std.proofs.lemmas.List.Sums.{sum_by-cons, sum_by-le}
 use Rattle.tda_model.specs.Spine.{Spine, IsUnit, IsTree, level_of, nation_of, children_of, parents_of, unit_numbers}
 use Rattle.tda_model.specs.Tables.{Tables}
-use Rattle.tda_model.specs.Least.{LeastRoot, LeastSplit}
-use Rattle.tda_model.specs.Deviation.{square}
 use Rattle.tda_model.specs.Release.{Inputs, CanBe, IsRelease, deviation_at}
 use Rattle.tda_model.proofs.Sums.{Each, sum_le}
 use Rattle.tda_model.proofs.FitOrder.{parents_each, each_inner, inner_has}
@@ -143,5 +141,5 @@ module _ (i : Inputs) (sound : IsSound i.spine) (fits : List Fit) (first : AreFi
   pub texts_released : (old new : Texts) → AreHeaders old → HasFits i.schema i.spine old fits new → AreTextsOf i new
   texts_released old new headers has =
       let total : sum_by (λ fit. fit.deviation) fits ≡ total_deviation i x =
-          total_own ∙ ap (λ curve. sum_by (λ u. deviation_at curve i u (x u)) (unit_numbers i.spine)) curve_is_square in
+      total_own ∙ ap (λ curve. sum_by (λ u. deviation_at curve i u (x u)) (unit_numbers i.spine)) curve_is_square in
       texts_written i sound.tree x fits order first.tables.1 (subst (λ curve. IsRelease curve i x) curve_is_square released) total (subst (λ n. n < 2 ^ 128) total small) old new headers has

@@ -1,5 +1,5 @@
 -- The curve of squares is the square.
-use Rattle.std.proofs.Common.{◌≡◌, ℕ, ℤ, pos, negsuc, nat_abs, refl}
+use Rattle.std.proofs.Common.{◌≡◌, ℤ, pos, negsuc, nat_abs, refl}
 use Rattle.tda_loss.specs.declared.Curve.TheVariants.{Square}
 use Rattle.tda_loss.specs.Curve.{value_of}
 use Rattle.tda_model.specs.Deviation.{square}

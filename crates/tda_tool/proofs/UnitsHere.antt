@@ -1,7 +1,7 @@
 -- The units of a fit are units.
-use Rattle.std.proofs.Common.{◌≡◌, ◌+◌, ℕ, zero, suc, ◌<◌, ◌≤◌, All, List, [], ◌∷◌, length, get_or, Option, Some, None, sym, subst, arith}
+use Rattle.std.proofs.Common.{◌≡◌, ℕ, zero, suc, ◌<◌, All, List, [], ◌∷◌, get_or, Option, Some, None, sym, subst, arith}
 use Rattle.std.proofs.lemmas.List.Elements.{All-from_get_or}
-use Rattle.tda_model.specs.Spine.{Spine, IsUnit, IsTree, nation_of, children_of}
+use Rattle.tda_model.specs.Spine.{Spine, IsUnit, IsTree, nation_of}
 use Rattle.tda_invar.proofs.UnitLists.{children_within}
 use Rattle.tda_descent.specs.Fits.{units_of}
 

@@ -1,22 +1,21 @@
 -- What was kept of all fits is the files of a release, with prices that certify it.
-use Rattle.std.proofs.Common.{◌≡◌, ℕ, ℤ, zero, suc, ◌+◌, ◌*◌, ◌-◌, ◌^◌, ◌<◌, ◌≤◌, min, List, [], ◌∷◌, ◌++◌, length, get_or, map, All, Option, Some, None, refl, sym, ap, ◌∙◌, subst, arith, nat_abs, pos}
+use Rattle.std.proofs.Common.{◌≡◌, ℕ, ℤ, zero, suc, ◌^◌, ◌<◌, List, [], ◌∷◌, ◌++◌, length, get_or, map, All, Option, Some, None, refl, sym, ap, ◌∙◌, subst, arith}
 use Rattle.std.specs.List.{flat_map, sum_by}
-use Rattle.std.proofs.lemmas.List.{length-map, append_assoc}
+use Rattle.std.proofs.lemmas.List.{length-map}
 use Rattle.std.proofs.lemmas.List.Elements.{All-from_get_or, recursion_from_All}
 use Rattle.tda_io.specs.Texts.{row_text}
-use Rattle.tda_model.specs.Spine.{nation_of, children_of, parents_of, unit_numbers, IsTree}
+use Rattle.tda_model.specs.Spine.{nation_of, parents_of, IsTree}
 use Rattle.tda_model.specs.Tables.{Tables}
 use Rattle.tda_model.specs.TablesText.{tables_header, tables_text}
 use Rattle.tda_model.specs.Deviation.{square}
-use Rattle.tda_model.specs.Release.{Inputs, IsRelease, deviation_at}
+use Rattle.tda_model.specs.Release.{Inputs, IsRelease}
 use Rattle.tda_model.proofs.Sums.{Each}
 use Rattle.tda_schema.specs.Stated.{level_at}
 use Rattle.tda_spine.specs.Judged.{fits_of}
-use Rattle.tda_out.specs.Written.{units_text, counts_in, rows_in}
+use Rattle.tda_out.specs.Written.{units_text, rows_in}
 use Rattle.tda_out.proofs.WrittenRows.{make_up_file}
 use Rattle.tda_groups.specs.Tree.{Tree, IsTreeOf}
 use Rattle.tda_loss.specs.declared.Curve.TheVariants.{Square}
-use Rattle.tda_fitnet.specs.Fits.{curve_of}
 use Rattle.tda_prices.specs.Items.{price_count, items_of, Pricing, prices_of}
 use Rattle.tda_prices.specs.Priced.{same_fit, before, price_in}
 use Rattle.tda_prices.specs.PricesText.{header, all_prices, fit_text}
@@ -60,10 +59,10 @@ module _ (i : Inputs) (tree : IsTree i.spine (nation_of i.spine)) (x : Tables) (
   pub tables_written : tables_header ++ flat_map (fit_rows i.schema i.spine) fits ≡ tables_text i.schema i.spine x
   tables_written =
       ap (λ t. tables_header ++ t)
-          (same_flat (fit_rows i.schema i.spine) (λ fit. rows_at fit.parent) fits (each_rows fits handed)
-          ∙ sym (flat_mapped rows_at (λ fit. fit.parent) fits)
-          ∙ ap (flat_map rows_at) order
-          ∙ ap (λ t. rows_at None ++ t) (flat_mapped rows_at Some (parents_of i.spine)))
+      (same_flat (fit_rows i.schema i.spine) (λ fit. rows_at fit.parent) fits (each_rows fits handed)
+      ∙ sym (flat_mapped rows_at (λ fit. fit.parent) fits)
+      ∙ ap (flat_map rows_at) order
+      ∙ ap (λ t. rows_at None ++ t) (flat_mapped rows_at Some (parents_of i.spine)))
       ∙ sym (make_up_file i.schema i.spine x)
 
   -- ---- the prices

@@ -1,5 +1,5 @@
 -- What a run of the program asked for, and what it leaves in the outbox.
-use Rattle.std.specs.Prelude.{◌≡◌, ◌≢◌, ◌<◌, ◌≤◌, ◌⊎◌, ◌+◌, ◌==◌, ℕ, ℤ, Bool, true, if◌then◌else◌, List, [], ◌∷◌, ◌++◌, length, take, map, slice_index_or, Option, Some, IfSome, option_map, Ok, Err}
+use Rattle.std.specs.Prelude.{◌≡◌, ◌≢◌, ◌≤◌, ◌⊎◌, ◌+◌, ◌==◌, ℕ, ℤ, Bool, true, if◌then◌else◌, List, [], ◌∷◌, ◌++◌, length, take, map, slice_index_or, Option, Some, IfSome, option_map, Ok, Err}
 use Rattle.std.specs.List.{list_any, zip}
 use Rattle.tda_io.specs.Outside.{Shelf, Tray, Written}
 use Rattle.tda_model.specs.Tables.{Tables}

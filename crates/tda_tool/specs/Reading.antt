@@ -1,5 +1,5 @@
 -- What reading the files of a command gives, asks for and counts.
-use Rattle.std.specs.Prelude.{◌≡◌, ◌≢◌, ◌⊎◌, ◌<◌, ◌≤◌, ℕ, ℤ, ◌+◌, ◌%◌, ◌^◌, codes, List, [], length, take, slice_get, slice_index_or, sum, count_by, Option, Some, IfSome, option_map, Result, Ok, Err}
+use Rattle.std.specs.Prelude.{◌≡◌, ◌≢◌, ◌⊎◌, ◌<◌, ◌≤◌, ℕ, ℤ, ◌+◌, ◌%◌, ◌^◌, List, [], length, take, slice_index_or, sum, count_by, Option, Some, IfSome, option_map, Result, Ok, Err}
 use Rattle.std.specs.Global.{Vec}
 use Rattle.rand_chacha.specs.ChaCha.{key_of}
 use Rattle.tda_io.specs.Outside.{Shelf, asks}
@@ -20,8 +20,8 @@ use Rattle.tda_words.specs.Words.{words_of, stream_words}
 use Rattle.tda_measure.specs.Measured.{HaveFewPersons}
 use Rattle.tda_tool.specs.Measuring.{Survey}
 use Rattle.tda_tool.specs.Fitting.{inputs_by}
-use Rattle.tda_command.specs.Words.{reads_of, read_names}
-use Rattle.tda_tool.specs.Ending.{Ending, file_limit, seed_length, or_refused, judged_within, read_ending, refused_ending}
+use Rattle.tda_command.specs.Words.{reads_of}
+use Rattle.tda_tool.specs.Ending.{Ending, file_limit, or_refused, judged_within, read_ending, refused_ending}
 use Rattle.tda_tool.specs.Due.{Given, given_by, failing_at, totals_from, records_from, inputs_from, survey_from}
 use Rattle.tda_tool.specs.Outcome.{AsksPrefix, asks_all}
 use Rattle.tda_refusal.specs.Refusal.{plain_text, join_text}

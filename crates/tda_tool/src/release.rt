@@ -72,6 +72,7 @@ impl Texts {
 
 // How many nodes and arcs the network of a fit has at most.
 const NODES: u32 = 2048;
+
 const ARCS: usize = 65536;
 
 // A solver of the network of any fit.

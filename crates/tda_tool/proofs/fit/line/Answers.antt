@@ -11,7 +11,7 @@ returns c =
     let told = decimal c.args.deviation in
     c.in_ok-push.ensures.items
     ∙ ap (λ t. t ++ 10 ∷ [])
-        (ap (λ v. v.items) c.into_bytes-line.ensures.value
-        ∙ c.in_ok-format.ensures.ok
-        ∙ ap (λ n. codes "ok fit fits=" ++ (decimal n ++ (last ++ told))) fits
-        ∙ ap (λ t. codes "ok fit fits=" ++ t) (sym (append_assoc (decimal (fit_count c.args.spine.now)) last told)))
+    (ap (λ v. v.items) c.into_bytes-line.ensures.value
+    ∙ c.in_ok-format.ensures.ok
+    ∙ ap (λ n. codes "ok fit fits=" ++ (decimal n ++ (last ++ told))) fits
+    ∙ ap (λ t. codes "ok fit fits=" ++ t) (sym (append_assoc (decimal (fit_count c.args.spine.now)) last told)))
