@@ -15,4 +15,6 @@ pub mod Fits
 pub mod Accepted
 pub mod CodeLists
 pub mod Climbs
+pub mod Largest
+pub mod FitSizes
 mod Worked

@@ -5,3 +5,4 @@ pub mod Judged
 pub mod Rows
 pub mod Sound
 pub mod Kept
+pub mod Largest

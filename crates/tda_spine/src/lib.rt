@@ -2,6 +2,7 @@
 #![tactic(auto)]
 
 mod fault;
+mod fit_size;
 mod index;
 mod judge;
 mod lists;
@@ -15,6 +16,7 @@ mod units;
 mod whole;
 
 pub use fault::SpineFault;
+pub use fit_size::FitSize;
 pub use read::read_spine;
 pub use spine::Spine;
 

@@ -47,8 +47,8 @@ fn is_large_split(children: u64, possible: u64, groups: u64) -> bool
     )
 }
 
-// How many cells are possible.
-fn count_possible(schema: &Schema) -> u64
+/// How many cells are possible.
+pub(crate) fn count_possible(schema: &Schema) -> u64
     ensures count { result ≡ length (possible_cells schema.now) }
     ensures few { result < 2 ^ 32 }
 {
