@@ -1,0 +1,16 @@
+pub mod Settled
+pub mod Lookups
+pub mod Children
+pub mod Kept
+pub mod RootArcs
+pub mod SplitArcs
+pub mod Release
+pub mod Exact
+pub mod Eaches
+pub mod Tests
+pub mod Decided
+pub mod GroupCount
+pub mod Soundness
+pub mod Laws
+pub mod Worked
+pub mod Limits

@@ -1,0 +1,5 @@
+pub mod Arcs
+pub mod Certified
+pub mod Verdicts
+pub mod Fitted
+pub mod Answers
