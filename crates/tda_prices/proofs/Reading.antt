@@ -1,6 +1,6 @@
 -- What reading rows for their places gives, and how it goes on.
 use Rattle.std.proofs.Common.{◌≡◌, ◌≢◌, ℕ, suc, ◌+◌, ◌<◌, ◌≤◌, Bool, true, false, not, cond, List, [], ◌∷◌, ◌++◌, length, get_or, map, drop, take, Option, Some, None, Result, Ok, Err, ℤ, pos, nat_abs, All, is_none, refl, sym, ap, ◌∙◌, subst, arith, length-append}
-use Rattle.std.specs.Prelude.{option_map, unwrap_or}
+use Rattle.std.specs.Prelude.{option_map, unwrap_or, IfErr}
 use Rattle.std.proofs.lemmas.List.{append_assoc, append-nil, drop_more, drop_all}
 use Rattle.std.proofs.lemmas.List.Elements.{All-append, All-cons}
 use Rattle.tda_io.specs.Csv.{Row}
@@ -70,7 +70,7 @@ pub reads_none : (places : List Row) (r : RowsRead) (before : List ℤ) → 0 < 
 reads_none places r before some = record {
   prices = [];
   appended = sym (append-nil before);
-  size = refl;
+  size = omega arith;
   near = λ k d below. absurd (omega (arith, below));
   gives = λ rest. sym (following_none (due (places ++ rest) r));
   width = refl;
@@ -146,3 +146,29 @@ reads_pushed places old new before after z reads is = record {
 -- what is done where no place is left
 pub all_read : (places : List Row) (old new : RowsRead) (before after : List ℤ) (left : List Row) → left ≡ [] → Reads places left old new before after → Reads places [] old new before after
 all_read places old new before after left none reads = subst (λ l. Reads places l old new before after) none reads
+
+-- one place of those that are left
+module _ (places left rest : List Row) (row fields : Row) (old mid : RowsRead) (before between : List ℤ) (e : left ≡ row ∷ rest) (same : fields ≡ row) (reads : Reads places left old mid before between) where
+  here : Reads places ((row ∷ []) ++ rest) old mid before between
+  here = subst (λ l. Reads places l old mid before between) e reads
+
+  pub read_next : (new : RowsRead) (after : List ℤ) → Reads (fields ∷ []) [] mid new between after → Reads places rest old new before after
+  read_next new after more = reads_on places (row ∷ []) rest old mid before between here new after (subst (λ f. Reads (f ∷ []) [] mid new between after) same more)
+
+  pub stop_next : (f : PriFault) → Stops (fields ∷ []) mid f → Stops places old f
+  stop_next f stops = stops_on places (row ∷ []) rest old mid before between here f (subst (λ r. Stops (r ∷ []) mid f) same stops)
+
+-- a part of those that are left
+module _ (places left part rest : List Row) (old mid : RowsRead) (before between : List ℤ) (e : left ≡ part ++ rest) (reads : Reads places left old mid before between) where
+  part_here : Reads places (part ++ rest) old mid before between
+  part_here = subst (λ l. Reads places l old mid before between) e reads
+
+  pub read_part : (new : RowsRead) (after : List ℤ) → Reads part [] mid new between after → Reads places rest old new before after
+  read_part new after more = reads_on places part rest old mid before between part_here new after more
+
+  pub stop_part : (f : PriFault) → Stops part mid f → Stops places old f
+  stop_part f stops = stops_on places part rest old mid before between part_here f stops
+
+pub err_weaker : {P Q : PriFault → Type 0} (r : Result (Unit {0}) PriFault) → ((f : PriFault) → P f → Q f) → IfErr r P → IfErr r Q
+err_weaker (Ok x) f h = tt
+err_weaker (Err e) f h = f e h

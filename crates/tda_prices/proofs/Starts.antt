@@ -1,16 +1,17 @@
 -- Where the prices of a fit stand among those of all fits.
-use Rattle.std.proofs.Common.{◌≡◌, ℕ, zero, suc, ◌+◌, ◌-◌, ◌<◌, ◌≤◌, cond, List, [], ◌∷◌, ◌++◌, length, get_or, map, Option, Some, None, ℤ, pos, refl, sym, ap, ◌∙◌, arith, length-append}
-use Rattle.std.specs.Prelude.{IfSome}
+use Rattle.std.proofs.Common.{◌≡◌, ℕ, zero, suc, ◌+◌, ◌-◌, ◌<◌, ◌≤◌, cond, false, List, [], ◌∷◌, ◌++◌, length, get_or, map, Option, Some, None, ℤ, pos, refl, sym, ap, ◌∙◌, subst, arith, length-append}
+use Rattle.std.specs.Prelude.{IfNone, IfSome, slice_index}
 use Rattle.std.specs.List.{AllByRecursion, between, flat_map}
 use Rattle.std.proofs.lemmas.List.{get_or-map, length-map, ext_get_or}
 use Rattle.std.proofs.lemmas.List.Edits.{get_or-between, length-between}
-use Rattle.tda_io.specs.Csv.{Row}
+use Rattle.std.proofs.lemmas.List.Elements.{recursion_from_All}
 use Rattle.tda_model.specs.Schema.{Schema}
 use Rattle.tda_model.specs.Spine.{Spine, nation_of, parents_of, IsTree}
 use Rattle.tda_spine.specs.Judged.{fits_of}
 use Rattle.tda_spine.specs.Sound.{IsInner}
 use Rattle.tda_spine.proofs.FitOrder.{each_inner}
 use Rattle.tda_prices.specs.Items.{Item, OfKind, items_of, price_count, prices_of}
+use Rattle.tda_prices.specs.Kept.{PriceList, ArePricesOf, BeginsThere}
 use Rattle.tda_prices.specs.Priced.{same_item, same_fit, before, prices_before, price_in}
 use Rattle.tda_prices.specs.PricesText.{fit_field, item_fields, fit_places, places_of}
 use Rattle.tda_prices.proofs.PricedBack.{AreApart, before_at, fits_apart, items_apart, own_fit, own_item}
@@ -52,7 +53,7 @@ module _ (s : Schema) (sp : Spine) (t : IsTree sp (nation_of sp)) where
         is = get_or-map Some (parents_of sp) at.index 0 None at.below ∙ ap Some at.is;
       }
 
-  abbrev begins : Option ℕ → ℕ
+  abbrev pub begins : Option ℕ → ℕ
   begins fit = prices_before s sp fit (fits_of sp)
 
   each_get : (P : Option ℕ → Type 0) (xs : List (Option ℕ)) (d : Option ℕ) → Each P xs → (k : ℕ) → k < length xs → P (get_or xs k d)
@@ -76,8 +77,7 @@ module _ (s : Schema) (sp : Spine) (t : IsTree sp (nation_of sp)) where
     pub room : begins fit + price_count s sp fit ≤ length (places_of s sp)
     room =
         let at = fit_is fit is in
-        let has = room_in (fits_of sp) (fits_apart s sp t) at.index at.below in
-        rw at.is at has
+        subst (λ f. begins f + price_count s sp f ≤ length (places_of s sp)) at.is (room_in (fits_of sp) (fits_apart s sp t) at.index at.below)
 
     module _ (numbers : List ℤ) where
       pub price_at : (k : ℕ) → k < price_count s sp fit → get_or (prices_of s sp (price_in s sp numbers) fit) k (pos 0) ≡ get_or numbers (begins fit + k) (pos 0)
@@ -95,3 +95,8 @@ module _ (s : Schema) (sp : Spine) (t : IsTree sp (nation_of sp)) where
           (λ k below.
           let low : k < count = omega (arith, below, long, room, size) in
           get_or-between numbers (begins fit) (begins fit + count) k (pos 0) (omega (arith, low)) ∙ sym (price_at k low))
+
+  -- where the prices of a fit begin, as it is kept
+  pub start_is : (p : PriceList) → ArePricesOf s sp p → (fit : Option ℕ) → IfSome fit (IsInner sp) → (start : ℕ) → IfNone fit (start ≡ 0) → IfSome fit (λ u. start ≡ slice_index p.starts u) → start ≡ begins fit
+  start_is p are None is start none some = none
+  start_is p are (Some u) is start none some = some ∙ each_inner sp t (BeginsThere s sp p.starts) (recursion_from_All (BeginsThere s sp p.starts) (parents_of sp) are.splits) u is

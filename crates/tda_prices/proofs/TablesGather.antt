@@ -25,7 +25,7 @@ use Rattle.tda_prices.specs.TablesRead.{number_within, whole_within, count_in, s
 use Rattle.tda_prices.specs.declared.fault.TabFault.{TabFault}
 use Rattle.tda_prices.specs.declared.fault.TabFault.TheVariants.{BadRow, WrongPlace, BadNumber}
 use Rattle.tda_prices.proofs.Starts.{Stands, all_stand}
-use Rattle.tda_out.proofs.TablesDetermined.{at_unit}
+use Rattle.tda_out.proofs.Once.{each_unit}
 use Rattle.tda_prices.proofs.TablesFine.{last_append, unit_at}
 
 parts : (a b : Bool) → (a && b) ≡ true → (a ≡ true) × (b ≡ true)
@@ -33,7 +33,7 @@ parts true b e = (refl, e)
 parts false b e = absurd cc
 
 -- a number that is within is so within another limit that it keeps
-within_too : (most other j : ℕ) (text : List ℕ) → number_within 0 most text ≡ Some j → j ≤ other → number_within 0 other text ≡ Some j
+pub within_too : (most other j : ℕ) (text : List ℕ) → number_within 0 most text ≡ Some j → j ≤ other → number_within 0 other text ≡ Some j
 within_too most other j text e le = by (int_of text) e
   where
     whole : (z : ℤ) → whole_within 0 most z ≡ Some j → whole_within 0 other z ≡ Some j
@@ -70,7 +70,7 @@ AreBefore s sp last rows = (k : ℕ) (d : Row) → k < length rows → (spot lat
 
 module _ (s : Schema) (sp : Spine) (sound : IsSound sp) (few : cell_count s < 2 ^ 64) where
   stands : (u : ℕ) → IsUnit sp u → Stands u (units_in_order sp)
-  stands u here = at_unit sp s sound few (λ u. Stands u (units_in_order sp)) (all_stand (units_in_order sp)) u here
+  stands u here = each_unit sp sound.tree (λ u. Stands u (units_in_order sp)) (all_stand (units_in_order sp)) u here
 
   -- where a row that names a unit and a cell stands
   module _ (u j : ℕ) (here : IsUnit sp u) (in_row : j < cell_count s) (row : Row) (is : names sp u j row ≡ true) where

@@ -1,5 +1,5 @@
 -- Rows that are written one after the other, and what is left to be written.
-use Rattle.std.proofs.Common.{◌≡◌, ℕ, ◌+◌, ◌<◌, ◌≤◌, List, [], ◌∷◌, ◌++◌, length, get_or, drop, take, ℤ, refl, sym, ap, ◌∙◌, append_assoc, append-nil}
+use Rattle.std.proofs.Common.{◌≡◌, ℕ, ◌+◌, ◌<◌, ◌≤◌, List, [], ◌∷◌, ◌++◌, length, get_or, drop, take, ℤ, refl, sym, ap, ◌∙◌, subst, arith, append_assoc, append-nil}
 use Rattle.std.specs.List.{flat_map, zip}
 use Rattle.std.proofs.Math.Seq.{take-append_seam}
 use Rattle.std.proofs.lemmas.List.{take-append-drop}
@@ -8,6 +8,37 @@ use Rattle.tda_io.specs.Texts.{row_text}
 use Rattle.tda_io.proofs.Appends.{kept_start}
 use Rattle.tda_prices.specs.Numbered.{number_row}
 use Rattle.tda_prices.specs.Parts.{numbered_text}
+
+pub text_append : (ks js : List Row) (vs ws : List ℤ) → length ks ≡ length vs → numbered_text (ks ++ js) (vs ++ ws) ≡ numbered_text ks vs ++ numbered_text js ws
+text_append [] js [] ws e = refl
+text_append [] js (v ∷ vs) ws e = absurd (omega arith)
+text_append (k ∷ ks) js [] ws e = absurd (omega arith)
+text_append (k ∷ ks) js (v ∷ vs) ws e = ap (λ t. row_text (number_row k v) ++ t) (text_append ks js vs ws (omega arith)) ∙ sym (append_assoc (row_text (number_row k v)) (numbered_text ks vs) (numbered_text js ws))
+
+-- a text that was only appended to
+pub record Grows (start now : List ℕ) : Type 0 where
+  pub more : List ℕ
+  pub is : now ≡ start ++ more
+
+pub grows_none : (start : List ℕ) → Grows start start
+grows_none start = record { more = []; is = sym (append-nil start) }
+
+pub grows_on : (start now new more : List ℕ) → Grows start now → new ≡ now ++ more → Grows start new
+grows_on start now new more g is = record { more = g.more ++ more; is = is ∙ ap (λ t. t ++ more) g.is ∙ append_assoc start g.more more }
+
+pub grows_field : (start now new field end : List ℕ) → Grows start now → new ≡ now ++ field ++ end → Grows start new
+grows_field start now new field end g is = grows_on start (now ++ field) new end (grows_on start now (now ++ field) field g refl) is
+
+pub grown_start : (start now : List ℕ) → Grows start now → take (length start) now ≡ start
+grown_start start now g = ap (take (length start)) g.is ∙ take-append_seam start g.more
+
+-- fields, one after the other
+pub five_fields : (o0 o1 o2 o3 o4 o5 a b c d e : List ℕ) → o1 ≡ o0 ++ a ++ 44 ∷ [] → o2 ≡ o1 ++ b ++ 44 ∷ [] → o3 ≡ o2 ++ c ++ 44 ∷ [] → o4 ≡ o3 ++ d ++ 44 ∷ [] → o5 ≡ o4 ++ e ++ 10 ∷ []
+    → o5 ≡ o0 ++ row_text (a ∷ b ∷ c ∷ d ∷ e ∷ [])
+five_fields o0 o1 o2 o3 o4 o5 a b c d e e1 e2 e3 e4 e5 = rw (e5, e4, e3, e2, e1) (simp append_assoc)
+
+pub two_numbers : (o3 o4 o5 o6 o7 d z : List ℕ) → o4 ≡ o3 ++ d → o5 ≡ o4 ++ 44 ∷ [] → o6 ≡ o5 ++ z → o7 ≡ o6 ++ 10 ∷ [] → (o7 ≡ (o3 ++ d ++ 44 ∷ []) ++ z ++ 10 ∷ [])
+two_numbers o3 o4 o5 o6 o7 d z e4 e5 e6 e7 = rw (e7, e6, e5, e4) (simp append_assoc)
 
 -- what was there, and these rows with these numbers, are what is there now, and the rows that are left with the numbers that are left
 pub record Writes (places : List Row) (numbers : List ℤ) (left : List Row) (others : List ℤ) (start now : List ℕ) : Type 0 where
@@ -38,3 +69,22 @@ module _ (places : List Row) (numbers : List ℤ) (start now : List ℕ) where
   -- none is left
   pub all_written : (others : List ℤ) → Writes places numbers [] others start now → now ≡ start ++ numbered_text places numbers
   all_written others w = sym (w.whole ∙ append-nil now)
+
+-- one row of those that are left
+module _ (places : List Row) (numbers : List ℤ) (start now : List ℕ) (left rest : List Row) (others after : List ℤ) (row fields : Row) (z y : ℤ)
+    (e : left ≡ row ∷ rest) (same : fields ≡ row) (d : others ≡ z ∷ after) (value : y ≡ z) (w : Writes places numbers left others start now) where
+  pub write_next : (new : List ℕ) → new ≡ now ++ row_text (number_row fields y) → Writes places numbers rest after start new
+  write_next new is =
+      one_row places numbers start now row z rest after new
+      (subst (λ zs. Writes places numbers (row ∷ rest) zs start now) d (subst (λ l. Writes places numbers l others start now) e w))
+      (is ∙ ap (λ f. now ++ row_text (number_row f y)) same ∙ ap (λ v. now ++ row_text (number_row row v)) value)
+
+-- a part of those that are left
+module _ (places : List Row) (numbers : List ℤ) (start now : List ℕ) (left part rest : List Row) (others own after : List ℤ)
+    (e : left ≡ part ++ rest) (d : others ≡ own ++ after) (long : length part ≡ length own) (w : Writes places numbers left others start now) where
+  pub write_part : (new : List ℕ) → new ≡ now ++ numbered_text part own → Writes places numbers rest after start new
+  write_part new is = record {
+    whole = w.whole ∙ ap (λ t. now ++ t) (ap (λ l. numbered_text l others) e ∙ ap (numbered_text (part ++ rest)) d ∙ text_append part rest own after long)
+        ∙ sym (append_assoc now (numbered_text part own) (numbered_text rest after)) ∙ ap (λ t. t ++ numbered_text rest after) (sym is);
+    begins = ap (take (length start)) is ∙ begins_more start now (numbered_text part own) w.begins;
+  }

@@ -28,6 +28,8 @@ pub fn price_count(schema: &Schema, spine: &Spine, fit: Option<u32>) -> u64
     requires fit { IfSome fit (IsInner spine.now) }
     ensures { result ≡ spec.price_count schema.now spine.now fit }
 {
+    // A spine has a first level, and each unit is of one of the levels.
+    let _ = spine.units();
     match fit {
         None => {
             let states = spine.at_level(1).len() as u64;

@@ -5,7 +5,7 @@ ghost use Rattle.tda_model.specs.Cells.{cell_count};
 ghost use Rattle.tda_model.specs.Spine.{IsUnit};
 ghost use Rattle.tda_prices.specs.Ranks.{AreRanks};
 ghost use Rattle.tda_prices.specs.TablesRead as spec;
-ghost use Rattle.tda_prices.specs.TablesRead.{count_in, fault_after, names, spot_by, spot_in};
+ghost use Rattle.tda_prices.specs.TablesRead.{comes_late, count_in, fault_after, names, spot_by, spot_in};
 
 use crate::TabFault;
 use tda_io::{PERSONS, RowReader, read_int};
@@ -45,6 +45,16 @@ fn cell_named(schema: &Schema, text: &[u8]) -> Option<u32>
     if cell < cells { Some(cell) } else { None }
 }
 
+// Whether a spot doesn't come after the last one.
+fn is_late(last: Option<u64>, spot: u64) -> bool
+    ensures { result ≡ comes_late last (Some spot) }
+{
+    match last {
+        Some(last) => spot <= last,
+        None => false,
+    }
+}
+
 /// The count in the row that was read last, or the row's fault; last is where the row before it stands.
 pub(crate) fn judge(
     schema: &Schema,
@@ -64,6 +74,8 @@ pub(crate) fn judge(
     ensures fine { IfOk result (λ _. fault_after schema.now spine.now row.now.number last row.now.row ≡ None) }
     ensures err { IfErr result (λ f. fault_after schema.now spine.now row.now.number last row.now.row ≡ Some f) }
 {
+    // Units have codes of their own.
+    let _ = spine.units();
     let number = row.number();
     let Some(unit) = spine.find(row.field(0)) else {
         return Err(TabFault::WrongPlace(number));
@@ -72,9 +84,7 @@ pub(crate) fn judge(
         return Err(TabFault::WrongPlace(number));
     };
     let spot = u64::from(ranks[unit as usize]) * u64::from(schema.cells()) + u64::from(cell);
-    if let Some(last) = last
-        && spot <= last
-    {
+    if is_late(last, spot) {
         return Err(TabFault::WrongPlace(number));
     }
     match number_within(1, PERSONS as u32, row.field(2)) {

@@ -62,6 +62,8 @@ impl Prices {
         ensures prices { result.now ≡ prices_of schema.now spine.now (price_in schema.now spine.now self.now.numbers) fit }
         ensures limit { All (λ z. nat_abs z ≤ price_limit) result.now }
     {
+        // The spine is a tree.
+        let _ = spine.units();
         let start = self.start(fit) as usize;
         let count = price_count(schema, spine, fit) as usize;
         &self.numbers[start..start + count]

@@ -190,6 +190,8 @@ fn read_children(
     ensures ok { OnOk result (Reads (child_rows schema.now spine.now parent) [] rows.old rows.new prices.old.items prices.new.items) }
     ensures err { IfErr result (Stops (child_rows schema.now spine.now parent) rows.old) }
 {
+    // Children are units.
+    let _ = spine.units();
     for child in spine.children(parent) {
         read_groups(schema, spine, Some(parent), *child, rows, prices)?;
     }

@@ -1,5 +1,6 @@
 // Writes prices.
 ghost use Rattle.std.specs.Prelude.{◌≡◌, ◌+◌, ◌*◌, ◌++◌, length, take, IfSome, None, OnErr, OnOk, Some};
+ghost use Rattle.std.specs.Fmt.{decimal};
 ghost use Rattle.tda_io.specs.Texts.{row_text, IsPlain};
 ghost use Rattle.tda_model.specs.Cells.{possible_cells};
 ghost use Rattle.tda_model.specs.Groups.{kind_count};
@@ -42,6 +43,14 @@ pub fn write_prices_header(out: &mut Vec<u8>) -> Result<(), NoMemory>
     written
 }
 
+// Appends the canonical decimal of a number.
+fn push_number(number: u32, out: &mut Vec<u8>) -> Result<(), NoMemory>
+    ensures ok { OnOk result (out.new.items ≡ out.old.items ++ decimal number) }
+    ensures err { OnErr result (out.new.items ≡ out.old.items) }
+{
+    push_int(out, i128::from(number))
+}
+
 // Appends the row of a price.
 fn push_price(place: Place, price: i128, out: &mut Vec<u8>) -> Result<(), NoMemory>
     requires fit { IsPlain place.fit.now }
@@ -53,7 +62,7 @@ fn push_price(place: Place, price: i128, out: &mut Vec<u8>) -> Result<(), NoMemo
     push_field(out, place.fit.as_bytes(), false)?;
     push_field(out, place.part.as_bytes(), false)?;
     push_field(out, place.unit.as_bytes(), false)?;
-    push_int(out, i128::from(place.item))?;
+    push_number(place.item, out)?;
     out.push(b',')?;
     push_int(out, price)?;
     out.push(b'\n')?;
