@@ -29,6 +29,8 @@ use Rattle.tda_fitnet.proofs.RootFit.{root_as, root_costs}
 use Rattle.tda_prices.specs.Items.{Pricing, prices_of}
 use Rattle.tda_fitnet.specs.declared.name.ArcName.TheVariants.{Share}
 use Rattle.tda_audit.specs.Arcs.{IsSettled, arc_of}
+use Rattle.tda_audit.proofs.Lookups.{AreGroupsOf}
+use Rattle.tda_audit.specs.Fitted.{AreFitted}
 use Rattle.tda_audit.specs.Certified.{Keeps, Certifies, IsUnitSettled}
 use Rattle.tda_audit.proofs.Children.{child_of_each}
 use Rattle.tda_audit.proofs.Kept.{kind_shares, shares_are, few_below}

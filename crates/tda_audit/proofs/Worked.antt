@@ -2,6 +2,7 @@
 use Rattle.std.proofs.Common.{◌≡◌, ℕ, List, [], ◌∷◌, Some, None, ℤ, pos, refl, codes, slice_index, zero, suc}
 use Rattle.std.specs.Prelude.{slice_index_or}
 use Rattle.tda_model.specs.Schema.{Fraction, Schema}
+use Rattle.tda_model.specs.Commons.{lcm}
 use Rattle.tda_model.specs.Spine.{Spine}
 use Rattle.tda_model.specs.Tables.{Tables}
 use Rattle.tda_model.specs.Release.{Inputs}
@@ -51,31 +52,31 @@ prices p (Some zero) item = pos 0
 prices p (Some (suc n)) item = pos p
 
 least : verdict inputs groups Square (tables 5 5 2 3) (prices 2) ≡ Yes
-unfolding value_of arc_cost sum_below
+unfolding lcm value_of arc_cost sum_below
 least = refl
 
 -- the prices from 1 to 3 certify it, and no others
 low : verdict inputs groups Square (tables 5 5 2 3) (prices 1) ≡ Yes
-unfolding value_of arc_cost sum_below
+unfolding lcm value_of arc_cost sum_below
 low = refl
 
 too_low : verdict inputs groups Square (tables 5 5 2 3) (prices 0) ≡ Arc (Some 1) (Group 2 0) Up
-unfolding value_of arc_cost sum_below
+unfolding lcm value_of arc_cost sum_below
 too_low = refl
 
 too_high : verdict inputs groups Square (tables 5 5 2 3) (prices 4) ≡ Arc (Some 1) (Group 2 0) Down
-unfolding value_of arc_cost sum_below
+unfolding lcm value_of arc_cost sum_below
 too_high = refl
 
 -- all to the first block is no least split, and no prices would show it
 lopsided : verdict inputs groups Square (tables 5 5 5 0) (prices 2) ≡ Arc (Some 1) (Group 2 0) Down
-unfolding value_of arc_cost sum_below
+unfolding lcm value_of arc_cost sum_below
 lopsided = refl
 
 not_summed : verdict inputs groups Square (tables 5 5 2 2) (prices 2) ≡ Sum 1 0
-unfolding value_of arc_cost sum_below
+unfolding lcm value_of arc_cost sum_below
 not_summed = refl
 
 wrong_total : verdict inputs groups Square (tables 4 4 2 2) (prices 2) ≡ Total 1
-unfolding value_of arc_cost sum_below
+unfolding lcm value_of arc_cost sum_below
 wrong_total = refl

@@ -1,10 +1,10 @@
 //! The judge of tables and prices.
 #![tactic(auto)]
 
-mod deviation;
+mod distance;
 mod judge;
 mod verdict;
 
-pub use deviation::deviation;
+pub use distance::deviation;
 pub use judge::audit;
 pub use verdict::Verdict;
