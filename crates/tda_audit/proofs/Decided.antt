@@ -165,17 +165,18 @@ module _ (c : Curve) (i : Inputs) (groups : ℕ → List (List ℕ)) (x : Tables
 
   to_parts : Each Fine (all_verdicts i groups) → AllFine
   to_parts h =
-      let a = append_each Fine sum_list (impossible_list ++ (total_list ++ (kind_list ++ arc_list))) h in
-      let b = append_each Fine impossible_list (total_list ++ (kind_list ++ arc_list)) a.1 in
-      let d = append_each Fine total_list (kind_list ++ arc_list) b.1 in
-      let e = append_each Fine kind_list arc_list d.1 in
-      record { sum_fine = a.0; impossible_fine = b.0; total_fine = d.0; kind_fine = e.0; arc_fine = e.1 }
+      let all = append_each Fine (sum_list ++ (impossible_list ++ (total_list ++ kind_list))) arc_list h in
+      let a = append_each Fine sum_list (impossible_list ++ (total_list ++ kind_list)) all.0 in
+      let b = append_each Fine impossible_list (total_list ++ kind_list) a.1 in
+      let d = append_each Fine total_list kind_list b.1 in
+      record { sum_fine = a.0; impossible_fine = b.0; total_fine = d.0; kind_fine = d.1; arc_fine = all.1 }
 
   from_parts : AllFine → Each Fine (all_verdicts i groups)
   from_parts h =
-      each_append Fine sum_list (impossible_list ++ (total_list ++ (kind_list ++ arc_list))) h.sum_fine
-      (each_append Fine impossible_list (total_list ++ (kind_list ++ arc_list)) h.impossible_fine
-      (each_append Fine total_list (kind_list ++ arc_list) h.total_fine (each_append Fine kind_list arc_list h.kind_fine h.arc_fine)))
+      each_append Fine (sum_list ++ (impossible_list ++ (total_list ++ kind_list))) arc_list
+      (each_append Fine sum_list (impossible_list ++ (total_list ++ kind_list)) h.sum_fine
+      (each_append Fine impossible_list (total_list ++ kind_list) h.impossible_fine (each_append Fine total_list kind_list h.total_fine h.kind_fine)))
+      h.arc_fine
 
   keeps_of : AllFine → Keeps i x
   keeps_of h = record {

@@ -14,3 +14,7 @@ pub mod Soundness
 pub mod Laws
 pub mod Worked
 pub mod Limits
+pub mod Walks
+pub mod Passes
+pub mod Rows
+pub mod SumsBy

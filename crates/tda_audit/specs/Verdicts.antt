@@ -41,6 +41,10 @@ module _ (s : Schema) (sp : Spine) where
   abbrev pub all_kinds : List Verdict
   all_kinds = flat_map (λ u. map (Kind u) (range_with_len 0 (kind_count s))) (unit_numbers sp)
 
+  -- what is published
+  abbrev pub all_rules : List Verdict
+  all_rules = all_sums ++ (all_impossible ++ (all_totals ++ all_kinds))
+
 module _ (i : Inputs) (groups : ℕ → List (List ℕ)) where
   abbrev pub give_names : ℕ → List ArcName
   give_names u = map (Give u) (possible_cells i.schema)
@@ -59,10 +63,7 @@ module _ (i : Inputs) (groups : ℕ → List (List ℕ)) where
   sides_of fit = flat_map (λ a. Arc fit a Up ∷ Arc fit a Down ∷ []) (names_of fit)
 
   abbrev pub all_verdicts : List Verdict
-  all_verdicts =
-      all_sums i.schema i.spine
-      ++ (all_impossible i.schema i.spine
-      ++ (all_totals i.schema i.spine ++ (all_kinds i.schema i.spine ++ flat_map sides_of (fits_of i.spine))))
+  all_verdicts = all_rules i.schema i.spine ++ flat_map sides_of (fits_of i.spine)
 
 -- ---- what fails
 module _ (s : Schema) (sp : Spine) (known : Published) (x : Tables) where

@@ -3,6 +3,7 @@
 
 mod distance;
 mod judge;
+mod rules;
 mod verdict;
 
 pub use distance::deviation;
