@@ -3,3 +3,4 @@ pub mod Certified
 pub mod Verdicts
 pub mod Fitted
 pub mod Answers
+pub mod Options

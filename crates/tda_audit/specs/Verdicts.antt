@@ -23,6 +23,10 @@ abbrev pub side_fails : Side → PricedArc → Bool
 side_fails Up a = nat_lt a.flow a.high && int_lt (a.cost (a.flow + 1) -ℤ a.cost a.flow) a.rise
 side_fails Down a = nat_lt a.low a.flow && int_lt a.rise (a.cost a.flow -ℤ a.cost (a.flow - 1))
 
+-- up comes first
+abbrev pub both_sides : List Side
+both_sides = Up ∷ Down ∷ []
+
 -- ---- all that may fail, in order
 module _ (s : Schema) (sp : Spine) where
   abbrev pub of_cells : (ℕ → ℕ → Verdict) → List ℕ → List Verdict
@@ -60,7 +64,7 @@ module _ (i : Inputs) (groups : ℕ → List (List ℕ)) where
   names_of (Some p) = flat_map give_names (children_of i.spine p) ++ flat_map group_names (children_of i.spine p)
 
   abbrev pub sides_of : Option ℕ → List Verdict
-  sides_of fit = flat_map (λ a. Arc fit a Up ∷ Arc fit a Down ∷ []) (names_of fit)
+  sides_of fit = flat_map (λ a. map (Arc fit a) both_sides) (names_of fit)
 
   abbrev pub all_verdicts : List Verdict
   all_verdicts = all_rules i.schema i.spine ++ flat_map sides_of (fits_of i.spine)

@@ -1,9 +1,12 @@
 //! The judge of tables and prices.
 #![tactic(auto)]
 
+mod arcs;
 mod distance;
 mod judge;
 mod rules;
+mod side;
+mod terms;
 mod verdict;
 
 pub use distance::deviation;
