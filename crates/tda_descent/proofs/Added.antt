@@ -1,9 +1,9 @@
 -- Tables of the children of a unit put beside those that were there: what earlier fits say stays.
 use Rattle.std.proofs.Common.{◌≡◌, ◌≢◌, ℕ, ◌+◌, ◌<◌, ◌≤◌, ◌⊎◌, inl, inr, Bool, true, false, cond, ◌==◌, Option, Some, None, length, get_or, refl, sym, ap, ◌∙◌, subst, arith, ne_eqb, eq-eqb}
-use Rattle.std.proofs.lemmas.Bool.{cases_Bool, cases_eq, eqb-true}
-use Rattle.tda_model.specs.Spine.{Spine, level_of, is_child, children_of, unit_numbers, parent_of, nation_of, parents_of, IsUnit, HasParent, IsTree}
-use Rattle.tda_model.specs.Tables.{Table, Tables}
-use Rattle.tda_model.proofs.Sums.{Each, each_filter, each_any}
+use Rattle.std.proofs.lemmas.Bool.{cases_eq, eqb-true}
+use Rattle.tda_model.specs.Spine.{Spine, level_of, is_child, children_of, unit_numbers, parent_of, nation_of, parents_of, IsUnit, IsTree}
+use Rattle.tda_model.specs.Tables.{Tables}
+use Rattle.tda_model.proofs.Sums.{each_filter, each_any}
 use Rattle.std.proofs.lemmas.List.Elements.{All-from_recursion, All-get_or}
 use Rattle.tda_model.proofs.FitOrder.{once_pairs, parents_once, parents_each, parent_before}
 use Rattle.tda_descent.proofs.Family.{AreSame}

@@ -1,16 +1,16 @@
 -- The fits that were handed on so far, the tables that they agree on, and what the code keeps of them.
-use Rattle.std.proofs.Common.{◌≡◌, ℕ, zero, suc, ◌+◌, ◌<◌, ◌≤◌, inl, inr, Bool, true, false, List, [], ◌∷◌, ◌++◌, ◌==◌, cond, map, length, get_or, take, Contains, Option, Some, None, refl, sym, ap, ◌∙◌, subst, arith}
-use Rattle.std.specs.List.{All, FoldsTo, range_with_len, sum_by}
+use Rattle.std.proofs.Common.{◌≡◌, ℕ, zero, suc, ◌+◌, ◌<◌, ◌≤◌, inl, inr, true, false, List, [], ◌∷◌, ◌++◌, ◌==◌, cond, map, length, get_or, take, Option, Some, None, refl, sym, ap, ◌∙◌, subst, arith}
+use Rattle.std.specs.List.{All, FoldsTo, sum_by}
 use Rattle.std.proofs.lemmas.List.{take-map, take_more, map-append, length-map, get_or_default, length-take-le}
 use Rattle.std.proofs.lemmas.List.FromFn.{get_or-map-range_with_len}
 use Rattle.std.proofs.lemmas.List.Elements.{All-from_recursion, recursion_from_All}
 use Rattle.tda_model.specs.Schema.{Schema}
 use Rattle.tda_model.specs.Bounds.{persons_limit}
 use Rattle.tda_model.specs.Cells.{cell_count, all_cells, kind_of}
-use Rattle.tda_model.specs.First.{counts_of, family_counts}
+use Rattle.tda_model.specs.First.{counts_of}
 use Rattle.tda_model.specs.Release.{Inputs, CanBe}
-use Rattle.tda_model.specs.Spine.{Spine, level_of, is_child, children_of, unit_numbers, nation_of, parents_of, IsUnit, HasParent, IsTree}
-use Rattle.tda_model.specs.Tables.{Table, Tables, Published, Attainable, persons_in, kind_sum}
+use Rattle.tda_model.specs.Spine.{Spine, is_child, children_of, unit_numbers, nation_of, parents_of, IsTree}
+use Rattle.tda_model.specs.Tables.{Table, Tables, Published, persons_in, kind_sum}
 use Rattle.tda_model.proofs.Sums.{Each, each_weaker, each_range, each_filter, each_any, sum_same, sum_le, each_le_sum}
 use Rattle.tda_model.proofs.FitOrder.{inner_has}
 use Rattle.tda_sets.proofs.Members.{Contains-filter, Contains-range}
@@ -20,12 +20,12 @@ use Rattle.tda_loss.specs.declared.Curve.{Curve}
 use Rattle.tda_fitnet.specs.Fits.{AreListedShares}
 use Rattle.tda_descent.specs.declared.fit.Fit.{Fit}
 use Rattle.tda_descent.specs.Fits.{IsFitOf, AreFirstFits, units_of, IsLeastAt}
-use Rattle.tda_descent.specs.Kept.{IsFormed, GoesOn}
+use Rattle.tda_descent.specs.Kept.{IsFormed}
 use Rattle.tda_descent.specs.Made.{HasChildren, IsRootOf, IsSplitOf, AreStored}
 use Rattle.tda_descent.proofs.Family.{AreSame, HaveSame, same_back}
 use Rattle.tda_descent.proofs.Chunks.{counts_length}
 use Rattle.tda_descent.proofs.Same.{split_is_fit, fit_is_split, root_is_fit}
-use Rattle.tda_descent.proofs.Added.{with_children, added_here, kept_there, kept_earlier, nation_no_child, not_of_another, IsReached, reached_first, reached_next, reached_more, not_reached}
+use Rattle.tda_descent.proofs.Added.{with_children, added_here, kept_there, kept_earlier, nation_no_child, IsReached, reached_first, reached_next, reached_more, not_reached}
 use Rattle.tda_descent.proofs.Steps.{split_formed, root_formed}
 
 -- ---- tables with the same counts
@@ -103,7 +103,7 @@ module _ (c : Curve) (i : Inputs) where
     pub done_are_first : (k : ℕ) (x : Tables) (fits : List Fit) → k ≤ length (parents_of sp) → AreDone k x fits → AreFirstFits c i fits × (length fits ≡ k + 1)
     done_are_first k x fits le d =
         let many : length fits ≡ k + 1 =
-            sym (length-map fits (λ fit. fit.parent)) ∙ ap length d.order ∙ counted (length-map (take k (parents_of sp)) Some ∙ length-take-le k (parents_of sp) le) in
+        sym (length-map fits (λ fit. fit.parent)) ∙ ap length d.order ∙ counted (length-map (take k (parents_of sp)) Some ∙ length-take-le k (parents_of sp) le) in
         let first : take (k + 1) (fits_of sp) ≡ None ∷ map Some (take k (parents_of sp)) = shifted k ∙ ap (λ os. None ∷ os) (take-map Some k (parents_of sp)) in (
           record {
             order = d.order ∙ sym first ∙ ap (λ n. take n (fits_of sp)) (sym many);
@@ -195,11 +195,11 @@ module _ (c : Curve) (i : Inputs) where
       child_few : (u : ℕ) → (n : ℕ) → n < length (children_of sp p) → get_or (children_of sp p) n 0 ≡ u → persons_in s (family u) ≤ persons_limit
       child_few u n less at =
           let below : (j : ℕ) → j < cell_count s → family u j ≤ table_at tables p j = λ j l.
-              let one = each_at (λ v. family v j ≤ sum_by (λ w. family w j) (children_of sp p)) (children_of sp p) (each_le_sum (λ w. family w j) (children_of sp p)) n less in
-              let adds = split.least.is_family.adds j l in
-              subst (λ v. family v j ≤ table_at tables p j) at (omega (arith, one, adds)) in
+          let one = each_at (λ v. family v j ≤ sum_by (λ w. family w j) (children_of sp p)) (children_of sp p) (each_le_sum (λ w. family w j) (children_of sp p)) n less in
+          let adds = split.least.is_family.adds j l in
+          subst (λ v. family v j ≤ table_at tables p j) at (omega (arith, one, adds)) in
           let sums : persons_in s (family u) ≤ persons_in s (table_at tables p) =
-              sum_le (family u) (table_at tables p) (all_cells s) (each_range (λ j. family u j ≤ table_at tables p j) 0 (cell_count s) (λ j low high. below j (omega arith))) in
+          sum_le (family u) (table_at tables p) (all_cells s) (each_range (λ j. family u j ≤ table_at tables p j) 0 (cell_count s) (λ j low high. below j (omega arith))) in
           omega (arith, sums, persons_same s (table_at tables p) (x p) has.same, has.few)
 
       module _ (new : List (List ℕ)) (stored : AreStored sp s fit.units.items family tables new) where
@@ -210,10 +210,10 @@ module _ (c : Curve) (i : Inputs) where
             let at : get_or (children_of sp p) n 0 ≡ u = get_or_default (children_of sp p) n 0 u found.1 ∙ found.2 in
             let there : get_or fit.units.items n 0 ≡ u = ap (λ us. get_or us n 0) split.units ∙ at in
             let table : get_or new u [] ≡ counts_of s (family u) =
-                subst (λ v. HasChildren sp v → get_or new v [] ≡ counts_of s (family v)) there (stored.kept n (omega (arith, ap length split.units, found.1))) (inner_children u inner) in
+            subst (λ v. HasChildren sp v → get_or new v [] ≡ counts_of s (family v)) there (stored.kept n (omega (arith, ap length split.units, found.1))) (inner_children u inner) in
             let added : more u ≡ family u = ap (λ b. cond b (family u) (x u)) is in
             let can : CanBe i u (family u) =
-                subst (λ v. CanBe i v (family v)) at (each_at (λ v. CanBe i v (family v)) (children_of sp p) (recursion_from_All (λ v. CanBe i v (family v)) (children_of sp p) split.least.is_family.can_be) n found.1) in
+            subst (λ v. CanBe i v (family v)) at (each_at (λ v. CanBe i v (family v)) (children_of sp p) (recursion_from_All (λ v. CanBe i v (family v)) (children_of sp p) split.least.is_family.can_be) n found.1) in
             record {
               size = ap length table ∙ counts_length s family u;
               same = λ j l. ap (λ t. get_or t j 0) table ∙ listed_same s (family u) j l ∙ ap (λ t. t j) (sym added);
@@ -224,10 +224,10 @@ module _ (c : Curve) (i : Inputs) where
         other_table : (u : ℕ) → is_child sp p u ≡ false → HasTable x tables u → HasTable more new u
         other_table u away h =
             let apart : All (λ v. u ≡ v → ⊥) fit.units.items =
-                subst (All (λ v. u ≡ v → ⊥)) (sym split.units)
-                (All-from_recursion (λ v. u ≡ v → ⊥) (children_of sp p)
-                (each_filter (λ v. u ≡ v → ⊥) (is_child sp p) (unit_numbers sp) (each_any (λ v. is_child sp p v ≡ true → u ≡ v → ⊥) (unit_numbers sp)
-                (λ v is same. let also : is_child sp p u ≡ true = ap (is_child sp p) same ∙ is in absurd cc)))) in
+            subst (All (λ v. u ≡ v → ⊥)) (sym split.units)
+            (All-from_recursion (λ v. u ≡ v → ⊥) (children_of sp p)
+            (each_filter (λ v. u ≡ v → ⊥) (is_child sp p) (unit_numbers sp) (each_any (λ v. is_child sp p v ≡ true → u ≡ v → ⊥) (unit_numbers sp)
+            (λ v is same. let also : is_child sp p u ≡ true = ap (is_child sp p) same ∙ is in absurd cc)))) in
             let table : get_or new u [] ≡ get_or tables u [] = stored.others u apart in
             let kept : more u ≡ x u = kept_there sp p u family x away in
             record {

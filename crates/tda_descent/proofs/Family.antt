@@ -1,10 +1,10 @@
 -- What is said of a family looks at its members alone.
-use Rattle.std.proofs.Common.{◌≡◌, ℕ, ◌+◌, ◌<◌, ◌≤◌, List, [], ◌∷◌, ◌++◌, map, refl, sym, ap, ◌∙◌, subst, arith}
-use Rattle.std.specs.List.{All, flat_map, sum_by}
+use Rattle.std.proofs.Common.{◌≡◌, ℕ, ◌<◌, ◌≤◌, List, [], ◌∷◌, ◌++◌, map, refl, sym, ap, ◌∙◌, subst}
+use Rattle.std.specs.List.{flat_map}
 use Rattle.std.proofs.lemmas.List.Elements.{recursion_from_All, All-from_recursion}
 use Rattle.tda_model.specs.Schema.{Schema}
 use Rattle.tda_model.specs.Cells.{cell_count}
-use Rattle.tda_model.specs.Tables.{Table, Tables, AddUp}
+use Rattle.tda_model.specs.Tables.{Table, Tables}
 use Rattle.tda_model.specs.Least.{IsFamily, LeastSplit, family_deviation}
 use Rattle.tda_model.specs.First.{family_counts, counts_of}
 use Rattle.tda_model.proofs.Sums.{Each, each_weaker, each_both, sum_same}

@@ -1,9 +1,9 @@
 -- One fit after the other is handed on.
-use Rattle.std.proofs.Common.{◌≡◌, ℕ, suc, ◌+◌, ◌<◌, ◌≤◌, Bool, true, false, List, [], ◌∷◌, ◌++◌, map, length, get_or, Option, Some, None, refl, sym, ap, ◌∙◌, subst, arith}
+use Rattle.std.proofs.Common.{◌≡◌, ℕ, suc, ◌+◌, ◌<◌, ◌≤◌, Bool, true, false, List, [], ◌∷◌, ◌++◌, map, length, get_or, Option, Some, None, refl, sym, ◌∙◌, subst, arith}
 use Rattle.std.specs.Prelude.{Result, Ok, Err, IsErr, IsErrAnd}
 use Rattle.std.specs.List.{All}
 use Rattle.std.proofs.lemmas.List.{get_or-map, length-map}
-use Rattle.std.proofs.lemmas.List.Elements.{All-from_recursion, recursion_from_All, All-get_or}
+use Rattle.std.proofs.lemmas.List.Elements.{All-from_recursion, All-get_or}
 use Rattle.tda_model.specs.Bounds.{persons_limit}
 use Rattle.tda_model.specs.Cells.{cell_count}
 use Rattle.tda_model.specs.Release.{Inputs, CanBe}
@@ -17,10 +17,9 @@ use Rattle.tda_fitnet.specs.Fits.{AreListedShares}
 use Rattle.tda_descent.specs.declared.fit.Fit.{Fit}
 use Rattle.tda_descent.specs.declared.fit.DescentStop.{DescentStop}
 use Rattle.tda_descent.specs.declared.fit.DescentStop.TheVariants.{Stopped, NoMemory}
-use Rattle.tda_descent.specs.Fits.{AreFirstFits}
 use Rattle.tda_descent.specs.Kept.{IsFormed, GoesOn, MayKeep, Ended, HandsOn}
 use Rattle.tda_descent.specs.Made.{IsRootOf, IsSplitOf, AreStored}
-use Rattle.tda_descent.specs.Handed.{Ends, HandsOne}
+use Rattle.tda_descent.specs.Handed.{Ends}
 use Rattle.tda_descent.proofs.Added.{IsReached, reached_next}
 use Rattle.tda_descent.proofs.Descending.{parent_at, table_at, HasTable, AreDone, done_are_first, root_done, root_tables, more, nation_kept, split_done, split_tables, folds_more, can_be_same, persons_same, shares_same}
 

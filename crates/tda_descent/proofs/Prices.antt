@@ -1,11 +1,10 @@
 -- The prices of a fit are those of a solved net without the hub's.
-use Rattle.std.proofs.Common.{◌≡◌, ℕ, suc, ◌+◌, ◌*◌, ◌<◌, ◌≤◌, ◌^◌, ℤ, pos, List, [], ◌∷◌, length, get_or, remove, refl, sym, ap, ◌∙◌, subst, arith}
-use Rattle.std.specs.List.{All}
+use Rattle.std.proofs.Common.{◌≡◌, ℕ, suc, ◌+◌, ◌*◌, ◌≤◌, ◌^◌, ℤ, pos, List, [], ◌∷◌, length, get_or, remove, sym, ap, ◌∙◌, subst, arith}
 use Rattle.std.proofs.lemmas.List.{get_or_default}
 use Rattle.tda_loss.specs.Curve.{IsWithin}
 use Rattle.tda_flow.specs.Network.{Network, IsSound, arc_count}
 use Rattle.tda_flow.specs.Flow.{cost}
-use Rattle.tda_flow.specs.Certificate.{IsCertified, ArePrices, price_at}
+use Rattle.tda_flow.specs.Certificate.{IsCertified, price_at}
 use Rattle.tda_descent.specs.declared.fit.Fit.{Fit}
 use Rattle.tda_descent.specs.Solved.{IsSolved}
 use Rattle.tda_descent.specs.Made.{IsMadeOf}

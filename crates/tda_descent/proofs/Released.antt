@@ -1,12 +1,12 @@
 -- All fits of the same tables are a release.
-use Rattle.std.proofs.Common.{◌≡◌, ℕ, suc, ◌+◌, ◌<◌, ◌≤◌, List, [], ◌∷◌, map, length, get_or, take, Option, Some, None, refl, sym, ap, ◌∙◌, subst, arith}
-use Rattle.std.specs.List.{All, sum_by}
-use Rattle.std.proofs.lemmas.List.{take_all, get_or-map, length-map}
+use Rattle.std.proofs.Common.{◌≡◌, ℕ, ◌+◌, List, [], ◌∷◌, map, length, Option, Some, None, refl, sym, ap, ◌∙◌, subst, arith}
+use Rattle.std.specs.List.{sum_by}
+use Rattle.std.proofs.lemmas.List.{take_all}
 use Rattle.std.proofs.lemmas.List.Sums.{sum_by-cons}
 use Rattle.std.proofs.lemmas.List.Elements.{All-from_recursion, recursion_from_All}
 use Rattle.tda_model.specs.Least.{LeastSplit}
-use Rattle.tda_model.specs.Release.{Inputs, CanBe, IsRelease, deviation_at}
-use Rattle.tda_model.specs.Spine.{Spine, nation_of, children_of, parents_of, unit_numbers, IsTree}
+use Rattle.tda_model.specs.Release.{Inputs, CanBe, deviation_at}
+use Rattle.tda_model.specs.Spine.{nation_of, children_of, parents_of, unit_numbers, IsTree}
 use Rattle.tda_model.specs.Tables.{Tables}
 use Rattle.tda_model.proofs.Releases.{splits_from_order}
 use Rattle.tda_model.proofs.Sums.{Each, each_weaker, sum_same}

@@ -1,19 +1,18 @@
 -- A fit's network and flow look at the parent's counts and at the children's tables alone.
-use Rattle.std.proofs.Common.{◌≡◌, ℕ, zero, suc, ◌+◌, ◌<◌, ◌≤◌, ◌^◌, true, ℤ, pos, List, [], ◌∷◌, ◌++◌, map, length, get_or, Option, Some, None, refl, sym, ap, ◌∙◌, subst, arith}
-use Rattle.std.specs.List.{range_with_len, flat_map, sum_by, All}
+use Rattle.std.proofs.Common.{◌≡◌, ℕ, zero, suc, ◌+◌, ◌<◌, true, pos, List, [], ◌∷◌, ◌++◌, length, get_or, Some, None, refl, sym, ap, ◌∙◌, subst, arith}
+use Rattle.std.specs.List.{range_with_len, sum_by}
 use Rattle.tda_model.specs.Schema.{Schema}
-use Rattle.tda_model.specs.Spine.{Spine, level_of, nation_of, children_of}
+use Rattle.tda_model.specs.Spine.{level_of, nation_of, children_of}
 use Rattle.tda_model.specs.Cells.{cell_count, all_cells, possible_cells, is_possible}
 use Rattle.tda_model.specs.Tables.{Table, Tables}
 use Rattle.tda_model.specs.Sizes.{fit_size}
 use Rattle.tda_model.specs.Least.{LeastRoot}
 use Rattle.tda_model.specs.Release.{Inputs, CanBe, deviation_at}
 use Rattle.tda_model.specs.First.{family_counts}
-use Rattle.tda_model.proofs.Sums.{Each, each_filter, each_range, each_any, each_weaker, sum_same}
+use Rattle.tda_model.proofs.Sums.{Each, each_filter, each_range}
 use Rattle.tda_schema.specs.Stated.{level_at}
 use Rattle.tda_loss.specs.declared.Curve.{Curve}
 use Rattle.tda_loss.specs.Curve.{value_of}
-use Rattle.tda_flow.specs.Network.{Network}
 use Rattle.tda_flow.specs.Certificate.{IsCertified}
 use Rattle.tda_groups.specs.Tree.{Tree, IsTreeOf}
 use Rattle.tda_fitnet.specs.declared.layout.Layout.{Layout}
@@ -25,7 +24,7 @@ use Rattle.tda_fitnet.specs.Fits.{curve_of, AreShares, root_flow, split_flow, gr
 use Rattle.tda_descent.specs.declared.fit.Fit.{Fit}
 use Rattle.tda_descent.specs.Fits.{units_of, level_below, IsLeastAt, IsCertifiedAt, IsFitOf}
 use Rattle.tda_descent.specs.Made.{IsSplitOf}
-use Rattle.tda_descent.proofs.Family.{AreSame, HaveSame, map_same, flat_same, counts_same, least_same, deviation_same, same_back}
+use Rattle.tda_descent.proofs.Family.{AreSame, HaveSame, map_same, flat_same, counts_same, least_same, deviation_same}
 
 each_at : (P : ℕ → Type 0) (xs : List ℕ) → Each P xs → (k : ℕ) → k < length xs → P (get_or xs k 0)
 each_at P [] h k l = absurd (omega arith)

@@ -1,5 +1,5 @@
 -- A solved net gives a fit of least deviation.
-use Rattle.std.proofs.Common.{◌≡◌, ℕ, ◌+◌, ◌*◌, ◌<◌, ◌≤◌, ◌^◌, ℤ, pos, List, [], ◌∷◌, ◌++◌, map, length, get_or, ◌==◌, inl, inr, Bool, true, false, cond, Option, Some, None, refl, sym, ap, ◌∙◌, subst, arith}
+use Rattle.std.proofs.Common.{◌≡◌, ℕ, ◌+◌, ◌*◌, ◌<◌, ◌≤◌, ℤ, pos, List, [], ◌∷◌, ◌++◌, map, length, get_or, ◌==◌, inl, inr, Bool, true, false, cond, Option, Some, None, sym, ap, ◌∙◌, subst, arith}
 use Rattle.std.specs.List.{All, filter, flat_map, range_with_len, position}
 use Rattle.std.specs.List.{sum_by}
 use Rattle.std.proofs.lemmas.Bool.{cases_lt}
@@ -10,25 +10,24 @@ use Rattle.tda_model.specs.Schema.{Schema}
 use Rattle.tda_model.specs.Cells.{cell_count}
 use Rattle.std.proofs.lemmas.List.Elements.{All-from_recursion}
 use Rattle.tda_model.specs.Bounds.{persons_limit, MostHolds, HasKinds}
-use Rattle.tda_model.specs.Least.{family_deviation}
 use Rattle.tda_model.specs.First.{family_counts}
 use Rattle.tda_model.specs.Release.{Inputs, CanBe, deviation_at}
 use Rattle.tda_model.specs.Sizes.{fit_size, counts_limit}
-use Rattle.tda_model.specs.Spine.{Spine, level_of, nation_of, children_of, unit_numbers, is_child, IsUnit, IsTree}
+use Rattle.tda_model.specs.Spine.{Spine, level_of, nation_of, children_of, unit_numbers, is_child, IsTree}
 use Rattle.tda_model.specs.Tables.{Table, Tables, persons_in}
-use Rattle.tda_model.proofs.Sums.{Each, each_any}
+use Rattle.tda_model.proofs.Sums.{Each}
 use Rattle.tda_schema.specs.Stated.{level_at}
 use Rattle.tda_spine.specs.Judged.{IsWithinLimits}
 use Rattle.tda_spine.specs.Sound.{IsInner}
 use Rattle.tda_loss.specs.declared.Curve.{Curve}
 use Rattle.tda_loss.specs.Curve.{value_of}
-use Rattle.tda_flow.specs.Network.{Network, IsSound, arc_count, arc_at}
+use Rattle.tda_flow.specs.Network.{Network, IsSound, arc_count}
 use Rattle.tda_flow.specs.Flow.{IsCirculation}
 use Rattle.tda_flow.specs.Certificate.{IsCertified}
 use Rattle.tda_groups.specs.Tree.{Tree, IsTreeOf}
-use Rattle.tda_fitnet.specs.Layout.{rows, give_place, arc_number}
+use Rattle.tda_fitnet.specs.Layout.{give_place, arc_number}
 use Rattle.tda_fitnet.specs.Arcs.{root_network, split_network}
-use Rattle.tda_fitnet.specs.Fits.{curve_of, AreShares, AreListedShares, root_flow, split_flow}
+use Rattle.tda_fitnet.specs.Fits.{curve_of, AreListedShares, root_flow, split_flow}
 use Rattle.tda_fitnet.specs.FitNetwork.{FitNetwork, HasLayout, net_at, root_fit, split_fit, flow_count, flow_counts, flow_shares}
 use Rattle.tda_fitnet.proofs.NationShares.{attains_vanishes}
 use Rattle.tda_fitnet.proofs.Solved.{solved_root, solved_split}
@@ -93,7 +92,7 @@ module _ (c : Curve) (i : Inputs) (tree : IsTree i.spine (nation_of i.spine)) (h
       let deep : level_of i.spine p + 1 < length i.schema.levels = omega (arith, inner.above, belong.depth) in
       let solved = solved_split i tree has most p inner.here deep t is x (attains_vanishes i.schema i.spine i.known p x can) few sound c flow prices circulates made.certified in
       let arcs : arc_count (split_network i t.groups p x) ≡ (fit_size i.schema i.spine (Some p)).arcs =
-          length-map _ (λ a. a.arc) ∙ layout.arcs ∙ split_arc_count i p t deep is in
+      length-map _ (λ a. a.arc) ∙ layout.arcs ∙ split_arc_count i p t deep is in
       let limit = belong.arcs p inner.here inner.above in (
         solved.0,
         record {
@@ -134,8 +133,12 @@ module _ (c : Curve) (i : Inputs) (tree : IsTree i.spine (nation_of i.spine)) (h
             few = subst (All (λ n. n ≤ persons_limit)) (sym counts) (counts_few (root_fit i t.groups) flow (flows_few (root_network i t.groups) flow sound circulates));
             least = subst (IsLeastAt c i x) (sym parent) solved.2.least;
             certified = subst (λ o. (u : Tree) → IsTreeOf i.schema (level_at i.schema (level_below i.spine o)) u → IsCertifiedAt c i u.groups x o fit.prices.items) (sym parent)
-                (λ u also. (solved.1, solved.2.shares_are, subst (λ groups. IsCertified (value_of c) (root_network i groups) (root_flow i groups solved.1 solved.0) prices)
-                (same_groups i.schema (level_at i.schema 0) t u is also) solved.2.certified));
+                (λ u also. (
+                  solved.1,
+                  solved.2.shares_are,
+                  subst (λ groups. IsCertified (value_of c) (root_network i groups) (root_flow i groups solved.1 solved.0) prices)
+                      (same_groups i.schema (level_at i.schema 0) t u is also) solved.2.certified,
+                ));
             prices = made.prices ∙ root_nodes i t deep is ∙ ap (λ o. (fit_size i.schema i.spine o).nodes) (sym parent);
             near = made.near;
             small = omega (arith, made.small, arcs, belong.root_arcs);

@@ -1,5 +1,5 @@
 -- A fit is handed on, and memory or the keeper may end it there.
-use Rattle.std.proofs.Common.{◌≡◌, ℕ, ◌+◌, ◌-◌, ◌*◌, ◌<◌, ◌≤◌, inl, inr, Bool, true, false, List, [], ◌∷◌, ◌++◌, length, get_or, Option, Some, None, refl, sym, ap, ◌∙◌, subst, arith}
+use Rattle.std.proofs.Common.{◌≡◌, ℕ, ◌+◌, ◌-◌, ◌*◌, ◌<◌, inl, inr, Bool, true, false, List, [], ◌∷◌, ◌++◌, length, get_or, refl, sym, ap, ◌∙◌, subst, arith}
 use Rattle.std.specs.Prelude.{Result, Ok, Err, OnOk, OnErr, IfErr, IfSome, MatchResult}
 use Rattle.std.specs.List.{All}
 use Rattle.std.proofs.lemmas.Bool.{cases_lt}
@@ -12,7 +12,7 @@ use Rattle.tda_model.specs.Release.{Inputs}
 use Rattle.tda_model.specs.Sizes.{fit_size}
 use Rattle.tda_model.specs.Spine.{Spine, is_child, children_of, unit_numbers, nation_of, IsUnit, IsTree}
 use Rattle.tda_model.specs.Tables.{Table, Tables}
-use Rattle.tda_model.proofs.Sums.{Each, each_filter, each_range}
+use Rattle.tda_model.proofs.Sums.{each_filter, each_range}
 use Rattle.tda_schema.specs.Stated.{level_at}
 use Rattle.tda_spine.specs.Sound.{IsInner}
 use Rattle.tda_groups.specs.Tree.{Tree, IsTreeOf}
@@ -20,7 +20,7 @@ use Rattle.tda_loss.specs.declared.Curve.{Curve}
 use Rattle.tda_descent.specs.declared.fit.Fit.{Fit}
 use Rattle.tda_descent.specs.declared.fit.DescentStop.{DescentStop}
 use Rattle.tda_descent.specs.declared.fit.DescentStop.TheVariants.{Stopped, NoMemory}
-use Rattle.tda_descent.specs.Fits.{units_of, IsFitOf}
+use Rattle.tda_descent.specs.Fits.{units_of}
 use Rattle.tda_descent.specs.Kept.{IsFormed}
 use Rattle.tda_descent.specs.Made.{IsSplitOf, IsRootOf, AreStored}
 use Rattle.tda_descent.specs.Handed.{Ends, HandsOne}
@@ -61,7 +61,7 @@ trees_more s level trees more count h last k t less =
       | inr high ↦
           let same : level ≡ k = omega (arith, less, high) in
           let at : get_or (trees ++ more ∷ []) k t ≡ more =
-              get_or-append_right trees (more ∷ []) (length trees) k t refl (omega (arith, count, high)) ∙ ap (λ j. get_or (more ∷ []) j t) (zero_is (k - length trees) (omega (arith, count, same))) in
+          get_or-append_right trees (more ∷ []) (length trees) k t refl (omega (arith, count, high)) ∙ ap (λ j. get_or (more ∷ []) j t) (zero_is (k - length trees) (omega (arith, count, same))) in
           subst (IsTreeOf s (level_at s k)) (sym at) (subst (λ j. IsTreeOf s (level_at s j) more) same last)
     ]
   where

@@ -1,9 +1,9 @@
 -- Each unit is the nation or a child of just one unit in fit order, so what is added over the fits is added over all units.
-use Rattle.std.proofs.Common.{◌≡◌, ◌≢◌, ℕ, ◌+◌, ◌<◌, ◌≤◌, Bool, true, false, cond, eqb, ◌==◌, Option, Some, None, List, [], ◌∷◌, length, refl, sym, ap, ◌∙◌, subst, inl, inr, arith, ne_eqb, eq-eqb}
+use Rattle.std.proofs.Common.{◌≡◌, ◌≢◌, ℕ, ◌+◌, ◌<◌, ◌≤◌, Bool, false, cond, ◌==◌, Option, Some, None, List, [], ◌∷◌, length, refl, sym, ap, ◌∙◌, subst, inl, inr, arith, ne_eqb, eq-eqb}
 use Rattle.std.proofs.lemmas.Bool.{cases_eq}
 use Rattle.std.proofs.lemmas.List.Sums.{sum_by-cons}
 use Rattle.std.specs.List.{sum_by}
-use Rattle.tda_model.specs.Spine.{Spine, level_of, is_child, children_of, unit_numbers, parent_of, nation_of, parents_of, IsUnit, HasParent, IsTree}
+use Rattle.tda_model.specs.Spine.{Spine, level_of, is_child, children_of, unit_numbers, parent_of, nation_of, parents_of, IsUnit, IsTree}
 use Rattle.tda_model.proofs.Sums.{Each, each_weaker, each_range, each_any, sum_same, sum_zero, sum_add, sum_filter, sum_swap, sum_one}
 use Rattle.tda_model.proofs.FitOrder.{EachOnce, parents_once, each_inner}
 
@@ -75,9 +75,9 @@ module _ (sp : Spine) (t : IsTree sp (nation_of sp)) (f : ℕ → ℕ) where
       let us = unit_numbers sp in
       let nation_part : sum_by (λ u. cond (u == nation_of sp) (f u) 0) us ≡ f (nation_of sp) = sum_one f (nation_of sp) 0 (length sp.units) (omega arith) (omega (arith, t.root)) in
       let inner : sum_by (λ p. sum_by f (children_of sp p)) ps ≡ sum_by (λ p. sum_by (λ u. cond (is_child sp p u) (f u) 0) us) ps =
-          sum_same _ _ ps (each_any _ ps (λ p. sum_filter f (is_child sp p) us)) in
+      sum_same _ _ ps (each_any _ ps (λ p. sum_filter f (is_child sp p) us)) in
       let turned : sum_by (λ p. sum_by (λ u. cond (is_child sp p u) (f u) 0) us) ps ≡ sum_by own us = sum_swap (λ p u. cond (is_child sp p u) (f u) 0) ps us in
       let parts : sum_by (λ u. cond (u == nation_of sp) (f u) 0 + own u) us ≡ sum_by f us =
-          sum_same (λ u. cond (u == nation_of sp) (f u) 0 + own u) f us (each_range (λ u. cond (u == nation_of sp) (f u) 0 + own u ≡ f u) 0 (length sp.units) (λ u low high. each_own u (omega arith))) in
+      sum_same (λ u. cond (u == nation_of sp) (f u) 0 + own u) f us (each_range (λ u. cond (u == nation_of sp) (f u) 0 + own u ≡ f u) 0 (length sp.units) (λ u low high. each_own u (omega arith))) in
       let added = sum_add (λ u. cond (u == nation_of sp) (f u) 0) own us in
       sym parts ∙ added ∙ ap (λ n. n + sum_by own us) nation_part ∙ ap (λ n. f (nation_of sp) + n) (sym (inner ∙ turned))

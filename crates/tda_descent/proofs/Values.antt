@@ -9,7 +9,7 @@ use Rattle.tda_loss.specs.Curve.{IsWithin, value_of}
 use Rattle.tda_loss.proofs.Laws.{value_of-within}
 use Rattle.tda_flow.specs.Sum.{sum_below}
 use Rattle.tda_flow.specs.declared.net.Term.{Term}
-use Rattle.tda_flow.specs.Network.{Network, IsNetTerm, AreNetTerms, IsSound, arc_count, arc_at, terms_at, term_at}
+use Rattle.tda_flow.specs.Network.{Network, IsNetTerm, IsSound, arc_count, arc_at, terms_at, term_at}
 use Rattle.tda_flow.specs.Flow.{term_cost, arc_cost, cost, IsCirculation}
 use Rattle.tda_flow.proofs.Sums.{sum_step, sum_below-empty}
 

@@ -1,7 +1,7 @@
 -- What fits were made into.
-use Rattle.std.specs.Prelude.{ℕ, ◌≡◌, ◌≢◌, ◌+◌, ◌*◌, ◌<◌, ◌≤◌, ◌^◌, ℤ, pos, List, [], ◌∷◌, length, slice_index, slice_index_or, sum_by, All, Option, Some, None}
+use Rattle.std.specs.Prelude.{ℕ, ◌≡◌, ◌≢◌, ◌+◌, ◌*◌, ◌<◌, ◌≤◌, ◌^◌, ℤ, pos, List, [], ◌∷◌, length, slice_index, slice_index_or, All, Some, None}
 use Rattle.tda_model.specs.Schema.{Schema}
-use Rattle.tda_model.specs.Spine.{Spine, level_of, nation_of, children_of}
+use Rattle.tda_model.specs.Spine.{Spine, level_of, children_of}
 use Rattle.tda_model.specs.Tables.{Table, Tables, persons_in}
 use Rattle.tda_model.specs.Bounds.{persons_limit}
 use Rattle.tda_model.specs.Sizes.{fit_size}

@@ -12,5 +12,9 @@ pub(crate) fn hand_on<K: FnMut(&Fit) -> bool>(fit: &Fit, keep: &mut K) -> Result
     ensures refused { OnErr result (CalledAt K.FnMut keep.old fit.now false keep.new) }
     ensures stopped { IfErr result (λ why. why ≡ Stopped) }
 {
-    if keep(fit) { Ok(()) } else { Err(DescentStop::Stopped) }
+    if keep(fit) {
+        Ok(())
+    } else {
+        Err(DescentStop::Stopped)
+    }
 }

@@ -1,6 +1,5 @@
-use Rattle.std.proofs.Common.{◌≡◌, ℕ, List, get_or, subst}
+use Rattle.std.proofs.Common.{ℕ, List, get_or, subst}
 use Rattle.std.specs.Fn.{CalledAt}
-use Rattle.tda_model.specs.First.{family_counts}
 use Rattle.tda_fitnet.specs.Inputs.{inputs_of}
 use Rattle.tda_descent.specs.Made.{IsSplitOf}
 use Rattle.tda_descent.proofs.Steps.{split_handed, split_length, split_units, split_formed, split_counts_here}

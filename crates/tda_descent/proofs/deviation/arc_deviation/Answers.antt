@@ -1,4 +1,4 @@
-use Rattle.std.proofs.Common.{◌≤◌, arith}
+use Rattle.std.proofs.Common.{arith}
 use Rattle.tda_loss.specs.Curve.{value_of}
 use Rattle.tda_descent.proofs.Values.{arc_none, arc_more, arc_all}
 use Rattle.tda_descent.proofs.deviation.arc_deviation.Goals as goal

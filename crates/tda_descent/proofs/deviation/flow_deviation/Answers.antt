@@ -1,4 +1,4 @@
-use Rattle.std.proofs.Common.{◌≡◌, get_or, ap, ◌∙◌, pos, arith}
+use Rattle.std.proofs.Common.{get_or, ap, ◌∙◌, arith}
 use Rattle.tda_loss.specs.Curve.{value_of}
 use Rattle.tda_flow.specs.Flow.{arc_cost}
 use Rattle.tda_descent.proofs.Values.{flow_none, flow_more, flow_all}

@@ -1,5 +1,5 @@
 use Rattle.std.proofs.lemmas.Grind.{common_steps}
-use Rattle.std.proofs.Common.{rules, ◌≡◌, ◌∙◌}
+use Rattle.std.proofs.Common.{rules}
 use Rattle.tda_fitnet.specs.Inputs.{inputs_of}
 use Rattle.tda_invar.proofs.Existence.{always}
 use Rattle.tda_descent.proofs.Solving.{root_found}

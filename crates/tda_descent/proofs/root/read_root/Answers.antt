@@ -1,4 +1,4 @@
-use Rattle.std.proofs.Common.{◌<◌, arith}
+use Rattle.std.proofs.Common.{arith}
 use Rattle.tda_descent.proofs.Solving.{flow_length}
 use Rattle.tda_descent.proofs.root.read_root.Goals as goal
 

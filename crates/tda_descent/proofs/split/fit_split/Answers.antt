@@ -1,5 +1,5 @@
 use Rattle.std.proofs.lemmas.Grind.{common_steps}
-use Rattle.std.proofs.Common.{rules, ◌≡◌, ◌∙◌, get_or}
+use Rattle.std.proofs.Common.{rules, get_or}
 use Rattle.tda_fitnet.specs.Inputs.{inputs_of}
 use Rattle.tda_descent.proofs.Solving.{split_found}
 use Rattle.tda_descent.proofs.split.fit_split.Goals as goal

@@ -1,4 +1,4 @@
-use Rattle.std.proofs.Common.{◌≡◌, ◌*◌, length, ap, ◌∙◌, arith}
+use Rattle.std.proofs.Common.{◌*◌, length, ap, ◌∙◌, arith}
 use Rattle.tda_model.specs.Spine.{children_of}
 use Rattle.tda_descent.proofs.Solving.{flow_length, counts_fit}
 use Rattle.tda_descent.proofs.split.read_split.Goals as goal

@@ -1,6 +1,6 @@
-use Rattle.std.proofs.Common.{◌≡◌, ◌+◌, length, length-append, subst, sym, ap, ◌∙◌, arith, get_or, ℕ, ◌<◌}
+use Rattle.std.proofs.Common.{subst, sym, arith, get_or}
 use Rattle.tda_schema.specs.Stated.{level_at}
-use Rattle.tda_groups.specs.Tree.{Tree, IsTreeOf}
+use Rattle.tda_groups.specs.Tree.{IsTreeOf}
 use Rattle.tda_descent.proofs.Steps.{trees_more}
 use Rattle.tda_descent.proofs.trees.level_trees.Goals as goal
 

@@ -1,4 +1,4 @@
-use Rattle.std.proofs.Common.{◌≤◌, arith, ◌∙◌}
+use Rattle.std.proofs.Common.{arith}
 use Rattle.tda_descent.proofs.TablesMore.{kept_next}
 use Rattle.tda_descent.proofs.tables.UnitTables.keep_all.Goals as goal
 

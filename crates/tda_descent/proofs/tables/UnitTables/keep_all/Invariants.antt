@@ -1,4 +1,3 @@
-use Rattle.std.proofs.Common.{ℕ}
 use Rattle.tda_descent.proofs.TablesMore.{AreKept}
 use Rattle.tda_descent.proofs.tables.UnitTables.keep_all.Given as goal
 
