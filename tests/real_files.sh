@@ -28,9 +28,21 @@ skip() {
   echo "skipped: $1"
 }
 
-# fit SCHEMA SPINE FACILITIES TOTALS TABLES
+# fit SCHEMA SPINE FACILITIES TOTALS TABLES: over measurements in the folder, with the prices beside them
 fit() {
-  "$tda" fit --schema "$1" --spine "$2" --facilities "$3" --totals "$4" --tables "$5"
+  "$tda" fit --schema "$1" --spine "$2" --facilities "$3" --totals "$4" --measurements "$folder/measurements.csv" \
+    --tables "$5" --prices "$folder/prices.csv"
+}
+
+# The status of a fit, and its report without the deviation.
+fit_without_deviation() {
+  report=$(fit "$@") || return
+  echo "${report% deviation=*}"
+}
+
+# The persons of a unit in a file of tables.
+persons() {
+  awk -F, -v unit="$1" '$1 == unit { n += $3 } END { print n + 0 }' "$2"
 }
 
 # measure RECORDS WORDS MEASUREMENTS: over the small example, with the other outputs in the folder
@@ -60,26 +72,15 @@ printf '%3000s' x >"$folder/tables.csv"
 : >"$folder/empty"
 printf 'odd' >"$folder/odd"
 printf 'state,total\nNorth,1\nSouth,5\n' >"$folder/short.csv"
-try "a release, over a longer file" 0 "ok fit fits=11" fit "$data/schema.toml" "$data/spine.csv" "$data/facilities.csv" "$data/totals.csv" "$folder/tables.csv"
-try "its tables" 0 "unit,cell,count
-US,0,460
-US,2,5
-North,0,117
-North,2,3
-South,0,343
-South,2,2
-N1,0,117
-N1,2,3
-N1.1,0,117
-N1.1,2,3
-N1.1.a,0,117
-N1.1.b,2,3
-S1,0,343
-S2,2,2
-S1.1,0,343
-S1.1.a,0,343
-S2.1,2,2
-S2.1.a,2,2" cat "$folder/tables.csv"
+# The schema measures 6 places of the nation, 4 of each state and 5 of each block; its shares together are 1.
+try "a measuring by a seed" 0 "ok measure places=44 spent=1/1" seeded_without_words 0 "$folder/measurements.csv"
+try "its rows" 0 45 awk 'END { print NR }' "$folder/measurements.csv"
+try "its totals" 0 "state,total
+North,7
+South,5" cat "$folder/totals.csv"
+try "a release, over a longer file" 0 "ok fit fits=11" fit_without_deviation "$data/schema.toml" "$data/spine.csv" "$data/facilities.csv" "$data/totals.csv" "$folder/tables.csv"
+try "its persons" 0 465 persons US "$folder/tables.csv"
+try "those of a state" 0 345 persons South "$folder/tables.csv"
 try "no words" 2 words "$tda"
 try "a missing file" 4 "read schema" fit "$folder/none" "$data/spine.csv" "$data/facilities.csv" "$data/totals.csv" "$folder/new.csv"
 try "a missing second file" 4 "read spine" fit "$data/schema.toml" "$folder/none" "$data/facilities.csv" "$data/totals.csv" "$folder/new.csv"
@@ -92,14 +93,8 @@ try "nothing but the report was begun" 1 - test -e "$folder/new.csv"
 try "an output in a folder that isn't there" 5 - fit "$data/schema.toml" "$data/spine.csv" "$data/facilities.csv" "$data/totals.csv" "$folder/none/tables.csv"
 try "a folder in place of an output" 5 - fit "$data/schema.toml" "$data/spine.csv" "$data/facilities.csv" "$data/totals.csv" "$folder"
 
-# The schema measures 6 places of the nation, 4 of each state and 5 of each block; its shares together are 1.
-try "a measuring by a seed" 0 "ok measure places=44 spent=1/1" seeded_without_words 0 "$folder/measurements.csv"
-try "its rows" 0 45 awk 'END { print NR }' "$folder/measurements.csv"
-try "its totals" 0 "state,total
-North,7
-South,5" cat "$folder/totals.csv"
 try "totals that don't suffice for the facilities" 3 "refused totals Short North 1 3" fit "$data/schema.toml" "$data/spine.csv" "$data/facilities.csv" "$folder/short.csv" "$folder/new.csv"
-try "the measured totals make a release" 0 "ok fit fits=11" fit "$data/schema.toml" "$data/spine.csv" "$data/facilities.csv" "$folder/totals.csv" "$folder/measured_tables.csv"
+try "the measured totals make a release" 0 "ok fit fits=11" fit_without_deviation "$data/schema.toml" "$data/spine.csv" "$data/facilities.csv" "$folder/totals.csv" "$folder/measured_tables.csv"
 try "the same words again" 0 "ok measure places=44 spent=1/1" seeded_without_words 0 "$folder/again.csv"
 try "give the same noise" 0 - cmp "$folder/measurements.csv" "$folder/again.csv"
 try "other words" 0 "ok measure places=44 spent=1/1" seeded_without_words 1000000 "$folder/others.csv"

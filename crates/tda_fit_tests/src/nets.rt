@@ -22,19 +22,19 @@ use tda_spine::{FitSize, Spine, read_spine};
 type Way = (ArcName, u32, u32, u64, u64, Option<i64>);
 
 // The files of a nation, how large its own fit and its largest fit are, and the arcs of its own fit.
-struct Nation {
-    schema: &'static str,
-    spine: &'static str,
-    facilities: &'static str,
-    totals: &'static str,
-    measurements: &'static str,
+pub(crate) struct Nation {
+    pub(crate) schema: &'static str,
+    pub(crate) spine: &'static str,
+    pub(crate) facilities: &'static str,
+    pub(crate) totals: &'static str,
+    pub(crate) measurements: &'static str,
     size: FitSize,
     largest: FitSize,
     ways: &'static [Way],
 }
 
 // The states are the nodes 1 and 2, the kinds 3 and 4, the nation's groups 5 to 7: all persons, houses, prisons.
-const PRISON: Nation = Nation {
+pub(crate) const PRISON: Nation = Nation {
     schema: "version = 1\ntotal = '1'\nattribute = [{ name = 'kind', values = ['house', 'prison'] }]\nlevel = [{ name = 'nation', query = [{ name = 'kind', by = ['kind'], share = '1' }] }, { name = 'state' }]",
     spine: "unit,level,parent\nUS,nation,\nS1,state,US\nS2,state,US\n",
     facilities: "block,kind,count\nS1,prison,1\n",
@@ -58,7 +58,7 @@ const PRISON: Nation = Nation {
 };
 
 // The state is node 1, the kinds are 2 and 3, the nation's groups 4 to 6.
-const DORMITORY: Nation = Nation {
+pub(crate) const DORMITORY: Nation = Nation {
     schema: "version = 1\ntotal = '1'\nattribute = [{ name = 'kind', values = ['house', 'dorm'] }]\nlevel = [{ name = 'nation', query = [{ name = 'kind', by = ['kind'], share = '1/2' }] }, { name = 'state' }, { name = 'block', query = [{ name = 'kind', by = ['kind'], share = '1/2' }] }]",
     spine: "unit,level,parent\nUS,nation,\nS1,state,US\nB1,block,S1\nB2,block,S1\n",
     facilities: "block,kind,count\nB1,dorm,2\n",

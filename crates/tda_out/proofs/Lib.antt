@@ -1,2 +1,5 @@
 pub mod RowLemmas
 pub mod WrittenRows
+pub mod Numerals
+pub mod Once
+pub mod TablesDetermined

@@ -5,7 +5,7 @@ ghost use Rattle.tda_io.specs.Texts.{name_test};
 ghost use Rattle.tda_model.specs.Cells.{cell_count};
 ghost use Rattle.tda_model.specs.Spine.{IsUnit};
 ghost use Rattle.tda_model.specs.TablesText.{count_row, tables_header};
-ghost use Rattle.tda_out.specs.Written.{units_text, MakeUpFile};
+ghost use Rattle.tda_out.specs.Written.{units_text, IsDetermined, MakeUpFile};
 
 use tda_io::{NoMemory, push_field, push_int};
 use tda_schema::Schema;
@@ -88,7 +88,7 @@ fn push_units(
 /// has at most 33 bytes where no count passes 2^30.
 ///
 /// The header, then the rows of the nation, then for each unit with children in fit order the rows of its children are
-/// the file of tables. After `NoMemory` nothing was appended.
+/// the file of tables. Equal files are of equal counts. After `NoMemory` nothing was appended.
 pub fn write_tables(
     schema: &Schema,
     spine: &Spine,
@@ -101,7 +101,11 @@ pub fn write_tables(
     ensures ok { OnOk result (out.new.items ≡ out.old.items ++ units_text schema.now spine.now units.now counts.now) }
     ensures err { OnErr result (out.new.items ≡ out.old.items) }
     ensures whole { MakeUpFile schema.now spine.now }
+    ensures determined { IsDetermined schema.now spine.now }
 {
+    // Units have codes of their own, and there are at most 4,096 cells.
+    let _ = spine.units();
+    let _ = schema.cells();
     let before = out.len();
     let rows = push_units(schema, spine, units, counts, out);
     if rows.is_err() {

@@ -18,9 +18,9 @@ use Rattle.tda_hist.specs.TrueTable.{lives_in, true_count, state_persons}
 use Rattle.tda_hist.specs.Agreement.{found, has_no_facility, is_short, faults_at, block_faults, faults, agree_fault, agree_due}
 use Rattle.tda_hist.specs.declared.fault.HistFault.{HistFault}
 use Rattle.tda_hist.specs.declared.fault.HistFault.TheVariants.{NoFacility, Short}
-use Rattle.tda_tool.specs.Refusal.{NamesKnown, IsPair}
+use Rattle.tda_refusal.specs.Refusal.{NamesKnown, IsPair}
 use Rattle.tda_tool.specs.Reading.{AreTrueCounts}
-use Rattle.tda_tool.specs.declared.refusal.Named.TheVariants.{Hist}
+use Rattle.tda_refusal.specs.declared.text.Named.TheVariants.{Hist}
 
 -- ---- lists put together
 

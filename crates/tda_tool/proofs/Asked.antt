@@ -3,9 +3,10 @@ use Rattle.std.proofs.Common.{◌≡◌, ◌<◌, ◌≤◌, ◌+◌, ◌∙◌,
 use Rattle.std.proofs.lemmas.List.{append-nil, take_more, take_all, length-map}
 use Rattle.std.proofs.lemmas.Option.{slice_get-map, slice_get_within, get_or_from_slice_get}
 use Rattle.tda_io.specs.Outside.{Shelf, asks}
-use Rattle.tda_tool.specs.Words.{reads_of, read_names, pairs_after, value_or_empty}
+use Rattle.tda_command.specs.Words.{reads_of, read_names, pairs_after, value_or_empty}
 use Rattle.tda_tool.specs.Outcome.{AsksPrefix, asks_all}
-use Rattle.tda_tool.specs.Reading.{name_of, place_of_file, path_of, IsRead}
+use Rattle.tda_tool.specs.Files.{name_of, place_of_file, IsRead}
+use Rattle.tda_tool.specs.Reading.{path_of}
 use Rattle.tda_tool.specs.declared.reading.File.{File}
 
 -- the first n of these names were asked for

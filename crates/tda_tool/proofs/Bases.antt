@@ -10,8 +10,9 @@ use Rattle.tda_invar.specs.KindTable.{NumberTable}
 use Rattle.tda_invar.specs.Facilities as facilities
 use Rattle.tda_tool.specs.Ending.{Ending, judged_file}
 use Rattle.tda_tool.specs.Due.{Given, base_from}
-use Rattle.tda_tool.specs.Refusal.{schema_text, spine_text, facilities_text}
-use Rattle.tda_tool.specs.Reading.{IsRead, GivesFile, AsksFile, AsksFiles, Gathers}
+use Rattle.tda_refusal.specs.Refusal.{schema_text, spine_text, facilities_text}
+use Rattle.tda_tool.specs.Files.{IsRead}
+use Rattle.tda_tool.specs.Reading.{GivesFile, AsksFile, AsksFiles, Gathers}
 use Rattle.tda_tool.specs.declared.base.Base.{Base}
 use Rattle.tda_tool.specs.declared.reading.File.TheVariants as file
 use Rattle.tda_tool.specs.declared.reading.Stop.{Stop}

@@ -4,7 +4,7 @@ use Rattle.std.specs.Result.{OnErr, OnOk}
 use Rattle.std.proofs.lemmas.List.{append-nil}
 use Rattle.tda_io.specs.Outside.{Tray, refuses}
 use Rattle.tda_io.specs.declared.outside.OutFault.{OutFault}
-use Rattle.tda_tool.specs.Words.{dash}
+use Rattle.tda_command.specs.Words.{dash}
 use Rattle.tda_tool.specs.Outcome.{whole, with_last, AsksBegin, BeginsPrefix}
 use Rattle.tda_tool.specs.Output.{part, LeavesPart, BeginsFirst}
 

@@ -3,8 +3,8 @@ use Rattle.std.proofs.Common.{◌≡◌, ◌≢◌, ◌∙◌, List, ℕ, ap, sy
 use Rattle.tda_io.specs.Due.{◌>>=◌}
 use Rattle.tda_io.specs.Outside.{Shelf}
 use Rattle.tda_tool.specs.Ending.{Ending, refused_ending, or_refused}
-use Rattle.tda_tool.specs.Refusal.{IsFaultText}
-use Rattle.tda_tool.specs.Reading.{name_of, IsRefused, IsStop, GivesBy, Judges}
+use Rattle.tda_tool.specs.Files.{name_of, IsFaultOf}
+use Rattle.tda_tool.specs.Reading.{IsRefused, IsStop, GivesBy, Judges}
 use Rattle.tda_tool.specs.declared.reading.File.{File}
 use Rattle.tda_tool.specs.declared.reading.Stop.{Stop}
 use Rattle.tda_tool.specs.declared.reading.Stop.TheVariants as stop
@@ -34,9 +34,9 @@ module _ {F : Type 0} (f : File) (text : F → List ℕ) (due : Result (Unit {0}
   pub judged_well : {X : Type 0} (x : X) → due ≡ Ok tt → Judges f text due (Ok x)
   judged_well x is = ap (or_refused (name_of f) text) is
 
-  pub judged_fault : (X : Type 0) (e : F) (s : Stop) → due ≡ Err e → IsRefused f (text e) s → IsFaultText (text e) → Judges {X = X} f text due (Err s)
+  pub judged_fault : (X : Type 0) (e : F) (s : Stop) → due ≡ Err e → IsRefused f (text e) s → IsFaultOf f (text e) → Judges {X = X} f text due (Err s)
   judged_fault X e (stop.Refused r) is refused known =
-      (refused.0, subst IsFaultText (sym refused.1) known, ap (or_refused (name_of f) text) is ∙ ap (λ t. let ended : Result (Unit {0}) Ending = Err (refused_ending (name_of f) t) in ended) (sym refused.1))
+      (refused.0, subst (IsFaultOf f) (sym refused.1) known, ap (or_refused (name_of f) text) is ∙ ap (λ t. let ended : Result (Unit {0}) Ending = Err (refused_ending (name_of f) t) in ended) (sym refused.1))
   judged_fault X e (stop.Read g) is refused known = absurd refused
   judged_fault X e stop.NoMemory is refused known = tt
 

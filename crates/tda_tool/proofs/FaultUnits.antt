@@ -14,8 +14,8 @@ use Rattle.tda_invar.specs.declared.tot_fault.TotFault.{TotFault}
 use Rattle.tda_invar.specs.declared.tot_fault.TotFault.TheVariants as tot
 use Rattle.tda_invar.specs.declared.join_fault.JoinFault.{JoinFault}
 use Rattle.tda_invar.specs.declared.join_fault.JoinFault.TheVariants as join
-use Rattle.tda_tool.specs.Refusal.{NamesKnown}
-use Rattle.tda_tool.specs.declared.refusal.Named.TheVariants.{Totals, Join}
+use Rattle.tda_refusal.specs.Refusal.{NamesKnown}
+use Rattle.tda_refusal.specs.declared.text.Named.TheVariants.{Totals, Join}
 
 -- what is found is one of those among which it is sought
 found_is : (P : ℕ → Type 0) (p : ℕ → Bool) (xs : List ℕ) (u : ℕ) → Each P xs → find p xs ≡ Some u → P u

@@ -1,49 +1,83 @@
--- The files of `fit`, one after the other.
-use Rattle.std.proofs.Common.{◌≡◌, ◌∙◌, ap, refl, arith, List, ℕ, Option, Some, option_map, slice_get, Result, Ok, Err}
+-- The files of the inputs, one after the other.
+use Rattle.std.proofs.Common.{◌≡◌, ◌∙◌, ap, sym, subst, refl, arith, List, ℕ, ℤ, Option, Some, option_map, slice_get, Result, Ok, Err}
 use Rattle.std.specs.Result.{IsErrAnd}
 use Rattle.tda_io.specs.Due.{◌>>=◌}
 use Rattle.tda_io.specs.Outside.{Shelf, asks}
-use Rattle.tda_invar.specs.Known.{JoinedLists}
-use Rattle.tda_tool.specs.Attained.{Inputs}
-use Rattle.tda_tool.specs.Words.{command_of, form_of, form_in, source_of}
+use Rattle.tda_model.specs.Release as release
+use Rattle.tda_invar.specs.Known.{JoinedLists, known}
+use Rattle.tda_command.specs.Words.{command_of, form_of, form_in, source_of}
+use Rattle.tda_command.specs.declared.words.Command.{Command}
+use Rattle.tda_command.specs.declared.words.Command.TheVariants as command
+use Rattle.tda_tool.specs.Fitting.{inputs_by}
 use Rattle.tda_tool.specs.Ending.{Ending}
-use Rattle.tda_tool.specs.Due.{Given, base_from, totals_from, inputs_from}
-use Rattle.tda_tool.specs.Reading.{name_of, place_of_file, path_of, IsRead, GivesInvariants, AsksFile, Gathers, AsksFiles}
+use Rattle.tda_tool.specs.Due.{Given, base_from, totals_from, measurements_from, inputs_from}
+use Rattle.tda_tool.specs.Files.{name_of, place_of_file, IsRead}
+use Rattle.tda_tool.specs.Reading.{path_of, GivesBy, GivesInvariants, AsksFile, Gathers, AsksFiles, ReadsInputs, GathersInputs}
 use Rattle.tda_tool.specs.declared.base.Base.{Base}
-use Rattle.tda_tool.specs.declared.words.Command.{Command}
+use Rattle.tda_tool.specs.declared.inputs.Inputs.{Inputs}
 use Rattle.tda_tool.specs.declared.reading.File.{File}
 use Rattle.tda_tool.specs.declared.reading.File.TheVariants as file
 use Rattle.tda_tool.specs.declared.reading.Stop.{Stop}
 use Rattle.tda_tool.proofs.Asked.{file_within}
-use Rattle.tda_tool.proofs.Stops.{HasRead, read_on, halted, part_read, asks_file_stopped, same_gathers}
+use Rattle.tda_tool.proofs.Stops.{HasRead, read_on, halted, part_read, asks_stopped, asks_file_stopped}
 
 -- a file that stands at its place in the command's form is read
 pub reads_at : (words : List (List ℕ)) (f : File) (c : Command) → command_of words ≡ Some c → slice_get (form_of (source_of words) c).reads (place_of_file f) ≡ Some (name_of f) → IsRead words f
 reads_at words f c is there = ap (λ o. slice_get (form_in words o).reads (place_of_file f)) is ∙ there
 
--- the inputs with totals of the base's schema, spine and facilities
-abbrev pub inputs_with : Base → List ℕ → Inputs
-inputs_with b t = record { schema = b.schema; spine = b.spine; facilities = b.facilities; totals = t }
+-- `fit` reads those of its inputs
+pub fit_reads : (words : List (List ℕ)) → command_of words ≡ Some command.Fit → ReadsInputs words
+fit_reads words is = record {
+  schema = reads_at words file.Schema command.Fit is refl;
+  spine = reads_at words file.Spine command.Fit is refl;
+  facilities = reads_at words file.Facilities command.Fit is refl;
+  totals = reads_at words file.Totals command.Fit is refl;
+  measurements = reads_at words file.Measurements command.Fit is refl;
+}
 
-abbrev pub with_totals : Base → List ℕ → Given → Result Inputs Ending
-with_totals b t given = Ok (inputs_with b t)
+-- the inputs of a base with totals and measurements
+abbrev pub inputs_with : Base → List ℕ → List ℤ → release.Inputs
+inputs_with b t m = inputs_by b.schema b.spine (known b.spine b.facilities t) m
 
-abbrev pub after_base : Base → Given → Result Inputs Ending
-after_base b given = totals_from b (given 3) >>= (λ t. with_totals b t given)
+abbrev pub with_measurements : Base → List ℕ → List ℤ → Given → Result release.Inputs Ending
+with_measurements b t m given = Ok (inputs_with b t m)
+
+abbrev pub after_totals : Base → List ℕ → Given → Result release.Inputs Ending
+after_totals b t given = measurements_from b.schema b.spine (given 4) >>= (λ m. with_measurements b t m given)
+
+abbrev pub after_base : Base → Given → Result release.Inputs Ending
+after_base b given = totals_from b (given 3) >>= (λ t. after_totals b t given)
 
 module _ (words : List (List ℕ)) where
-  module _ (reads : IsRead words file.Totals) (old mid : Option Shelf) (b : Base) (gathers : Gathers words 3 base_from old (Ok b)) (asked : AsksFiles {X = Base} words 3 old mid (Ok b)) where
+  -- an answer that is this stop
+  same_inputs : (old new : Option Shelf) (e : Stop) (r : Result Inputs Stop) → IsErrAnd r (λ x. x ≡ e)
+      → Gathers words 5 inputs_from old (Err e) × AsksFiles {X = release.Inputs} words 5 old new (Err e) → GathersInputs words old r × AsksFiles {X = Inputs} words 5 old new r
+  same_inputs old new e (Ok i) same h = absurd same
+  same_inputs old new e (Err x) same h = rw same (h.0, asks_stopped release.Inputs Inputs words 5 5 old new e h.1)
+
+  module _ (reads : ReadsInputs words) (old mid : Option Shelf) (b : Base) (gathers : Gathers words 3 base_from old (Ok b)) (asked : AsksFiles {X = Base} words 3 old mid (Ok b)) where
     base_read : HasRead words inputs_from old mid 3 (after_base b)
-    base_read = part_read words base_from after_base 3 old mid b (let l = file_within words file.Totals reads in omega arith) gathers asked
+    base_read = part_read words base_from after_base 3 old mid b (let l = file_within words file.Totals reads.totals in omega arith) gathers asked
 
     pub invariants_halt : (new : Option Shelf) (e : Stop) (r : Result Inputs Stop) → IsErrAnd r (λ x. x ≡ e) → GivesInvariants words b mid (Err e) → AsksFile {T = JoinedLists} words file.Totals mid new (Err e)
-        → Gathers words 4 inputs_from old r × AsksFiles {X = Inputs} words 4 old new r
+        → GathersInputs words old r × AsksFiles {X = Inputs} words 5 old new r
     invariants_halt new e r is gives asks_it =
         let asks_list = asks_file_stopped JoinedLists (List ℕ) words file.Totals mid new e asks_it in
-        same_gathers words 4 inputs_from old new e r is (halted words inputs_from file.Totals (totals_from b) (with_totals b) 4 old mid new e refl reads base_read gives asks_list)
+        same_inputs old new e r is (halted words inputs_from file.Totals (totals_from b) (after_totals b) 5 old mid new e refl reads.totals base_read gives asks_list)
 
-    pub all_read : (new : Option Shelf) (inv : JoinedLists) → GivesInvariants words b mid (Ok inv) → new ≡ option_map (asks (path_of words file.Totals)) mid
-        → (let i : Inputs = record { schema = b.schema; spine = b.spine; facilities = inv.facilities; totals = inv.totals } in Gathers words 4 inputs_from old (Ok i) × AsksFiles {X = Inputs} words 4 old new (Ok i))
-    all_read new inv gives asks_it =
-        let all = read_on words inputs_from file.Totals (totals_from b) (with_totals b) old mid new inv.totals reads base_read gives.1 asks_it in
-        rw gives.0 (all.come, all.asked.asked)
+    module _ (next : Option Shelf) (inv : JoinedLists) (gives : GivesInvariants words b mid (Ok inv)) (asks_it : next ≡ option_map (asks (path_of words file.Totals)) mid) where
+      totals_read : HasRead words inputs_from old next 4 (after_totals b inv.totals)
+      totals_read = read_on words inputs_from file.Totals (totals_from b) (after_totals b) old mid next inv.totals reads.totals base_read gives.1 asks_it
+
+      pub measurements_halt : (new : Option Shelf) (e : Stop) (r : Result Inputs Stop) → IsErrAnd r (λ x. x ≡ e) → GivesBy {A = List ℤ} words file.Measurements (measurements_from b.schema b.spine) next (Err e)
+          → AsksFile {T = List ℤ} words file.Measurements next new (Err e) → GathersInputs words old r × AsksFiles {X = Inputs} words 5 old new r
+      measurements_halt new e r is gives_it asks_last =
+          same_inputs old new e r is (halted words inputs_from file.Measurements (measurements_from b.schema b.spine) (with_measurements b inv.totals) 5 old next new e refl reads.measurements totals_read gives_it asks_last)
+
+      pub all_read : (new : Option Shelf) (m : List ℤ) → GivesBy words file.Measurements (measurements_from b.schema b.spine) next (Ok m) → new ≡ option_map (asks (path_of words file.Measurements)) next
+          → Gathers words 5 inputs_from old (Ok (inputs_by b.schema b.spine (known b.spine inv.facilities inv.totals) m)) × AsksFiles {X = Inputs} words 5 old new (Ok (record { schema = b.schema; spine = b.spine; invariants = inv; measurements = m }))
+      all_read new m gives_it asks_last =
+          let all = read_on words inputs_from file.Measurements (measurements_from b.schema b.spine) (with_measurements b inv.totals) old next new m reads.measurements totals_read gives_it asks_last in (
+            subst (λ f. Gathers words 5 inputs_from old (Ok (inputs_by b.schema b.spine (known b.spine f inv.totals) m))) (sym gives.0) all.come,
+            all.asked.asked,
+          )

@@ -7,12 +7,13 @@ use Rattle.tda_io.specs.Outside.{Shelf, asks, Reads}
 use Rattle.tda_io.specs.declared.outside.InFault.{InFault}
 use Rattle.tda_io.specs.declared.outside.InFault.TheVariants as fault_in
 use Rattle.tda_tool.specs.Ending.{judged_within, refused_ending}
-use Rattle.tda_tool.specs.Refusal.{plain_text, IsFaultText}
-use Rattle.tda_tool.specs.declared.refusal.Plain.TheVariants.{TooLong}
+use Rattle.tda_refusal.specs.Refusal.{plain_text}
+use Rattle.tda_refusal.specs.declared.text.Plain.TheVariants.{TooLong}
 use Rattle.tda_tool.specs.declared.reading.File.{File}
 use Rattle.tda_tool.specs.declared.reading.Stop.{Stop}
 use Rattle.tda_tool.specs.declared.reading.Stop.TheVariants as stop
-use Rattle.tda_tool.specs.Reading.{path_of, limit_of, IsLong, IsRefused, IsStop, GivesBytes, AsksFile, CountsRead}
+use Rattle.tda_tool.specs.Files.{limit_of, IsFaultOf}
+use Rattle.tda_tool.specs.Reading.{path_of, IsLong, IsRefused, IsStop, GivesBytes, AsksFile, CountsRead}
 
 -- the first bytes of what a shelf holds, one more than the limit
 abbrev IsTaken : ℕ → List ℕ → List ℕ → Shelf → Type 0
@@ -79,8 +80,8 @@ counts_none T f text before now (stop.Read g) is same = absurd is
 counts_none T f text before now stop.NoMemory is same = same
 
 -- a refusal by a reader's fault
-pub stop_by : {F : Type 0} (no_memory : F) (f : File) (text : F → List ℕ) (e : F) (s : Stop) → e ≢ no_memory → IsRefused f (text e) s → IsFaultText (text e) → IsStop no_memory f text e s
-stop_by no_memory f text e (stop.Refused r) ne is known = (ne, is.0, is.1, subst IsFaultText (sym is.1) known)
+pub stop_by : {F : Type 0} (no_memory : F) (f : File) (text : F → List ℕ) (e : F) (s : Stop) → e ≢ no_memory → IsRefused f (text e) s → IsFaultOf f (text e) → IsStop no_memory f text e s
+stop_by no_memory f text e (stop.Refused r) ne is known = (ne, is.0, is.1, subst (IsFaultOf f) (sym is.1) known)
 stop_by no_memory f text e (stop.Read g) ne is known = absurd is
 stop_by no_memory f text e stop.NoMemory ne is known = tt
 

@@ -1,4 +1,3 @@
-pub mod Values
 pub mod Asked
 pub mod Judged
 pub mod Stops
@@ -16,11 +15,12 @@ pub mod Ran
 pub mod Writes
 pub mod Surveyed
 pub mod Prepared
-pub mod Attaining
-pub mod FirstCells
-pub mod FindHomes
-pub mod ByKind
-pub mod Parents
-pub mod PlainCounts
-pub mod PlainText
+pub mod Squares
+pub mod UnitsHere
+pub mod FitSizes
+pub mod Folded
+pub mod PriceCounts
+pub mod Kept
+pub mod Written
+pub mod Releasing
 mod Worked

@@ -1,21 +1,21 @@
 -- What a file of words and a seed give.
-use Rattle.std.proofs.Common.{◌≡◌, ◌≢◌, ◌≤◌, ◌%◌, ◌^◌, ◌&&◌, ℕ, ℤ, pos, negsuc, Bool, true, false, cond, List, length, codes, refl, ap, subst, sym, inl, arith, eq-eqb, ne_eqb, nat_le, Option, Some, None, unwrap_or, option_and_then, IfSome, Result, Ok, Err}
+use Rattle.std.proofs.Common.{◌≡◌, ◌≢◌, ◌≤◌, ◌%◌, ◌^◌, ◌&&◌, ℕ, ℤ, pos, negsuc, Bool, true, false, cond, List, length, codes, refl, ap, subst, sym, inr, arith, eq-eqb, ne_eqb, nat_le, Option, Some, None, unwrap_or, option_and_then, IfSome, Result, Ok, Err}
 use Rattle.std.proofs.lemmas.Bool.{leb-true}
 use Rattle.rand_chacha.specs.ChaCha.{key_of}
 use Rattle.tda_io.specs.Texts.{int_of}
 use Rattle.tda_io.specs.Outside.{Shelf}
 use Rattle.tda_words.specs.Words.{words_of, stream_words}
-use Rattle.tda_tool.specs.Words as command
-use Rattle.tda_tool.specs.Words.{within, number_name, pairs_after, value_or_empty}
+use Rattle.tda_command.specs.Words as command
+use Rattle.tda_command.specs.Words.{within, number_name, pairs_after, value_or_empty}
 use Rattle.tda_tool.specs.Measuring.{read_words, read_seed, noise_from}
 use Rattle.tda_tool.specs.Ending.{file_limit, seed_length}
-use Rattle.tda_tool.specs.Refusal.{plain_text}
+use Rattle.tda_refusal.specs.Refusal.{plain_text}
 use Rattle.tda_tool.specs.Reading.{path_of, source_path, IsRefused, GivesBy, GivesNoise, AsksFile}
-use Rattle.tda_tool.specs.declared.refusal.Plain.{Plain}
-use Rattle.tda_tool.specs.declared.refusal.Plain.TheVariants.{TooLong, BadLength}
-use Rattle.tda_tool.specs.declared.words.Number.TheVariants.{Place, Budget}
-use Rattle.tda_tool.specs.declared.words.Source.{Source}
-use Rattle.tda_tool.specs.declared.words.Source.TheVariants as source
+use Rattle.tda_refusal.specs.declared.text.Plain.{Plain}
+use Rattle.tda_refusal.specs.declared.text.Plain.TheVariants.{TooLong, BadLength}
+use Rattle.tda_command.specs.declared.words.Number.TheVariants.{Place, Budget}
+use Rattle.tda_command.specs.declared.words.Source.{Source}
+use Rattle.tda_command.specs.declared.words.Source.TheVariants as source
 use Rattle.tda_tool.specs.declared.noise.Noise.{Noise}
 use Rattle.tda_tool.specs.declared.noise.Noise.TheVariants as noise
 use Rattle.tda_tool.specs.declared.reading.File.TheVariants as file
@@ -44,7 +44,7 @@ module _ (words : List (List ℕ)) (shelf : Option Shelf) (bytes : List ℕ) whe
   pub words_refused : (s : Stop) → IsRefused file.Words (plain_text BadLength) s → IfSome shelf (λ h. h.holds (path_of words file.Words) ≡ Some bytes) → length bytes ≤ file_limit → length bytes % 4 ≢ 0
       → GivesBy {A = List ℕ} words file.Words (noise_from words source.Words) shelf (Err s)
   words_refused s is held less part =
-      stop_given words file.Words plain_text read_words TooLong bytes bytes BadLength s shelf (stop_by TooLong file.Words plain_text BadLength s (λ e. cc e) is (inl (BadLength, refl, tt))) held less refl
+      stop_given words file.Words plain_text read_words TooLong bytes bytes BadLength s shelf (stop_by TooLong file.Words plain_text BadLength s (λ e. cc e) is (inr refl)) held less refl
       (λ ne. ap (λ b. let r : Result (List ℕ) Plain = cond b (Ok (words_of bytes)) (Err BadLength) in r) (ne_eqb (length bytes % 4) 0 part))
 
   abbrev seed_words : Result (List ℕ) Plain
@@ -60,7 +60,7 @@ module _ (words : List (List ℕ)) (shelf : Option Shelf) (bytes : List ℕ) whe
       → GivesBy {A = List ℕ} words file.Seed (noise_from words source.Seed) shelf (Err s)
   seed_refused s is held less other =
       stop_given words file.Seed plain_text (read_seed (command.number_of words Place) (command.number_of words Budget)) TooLong bytes bytes BadLength s shelf
-      (stop_by TooLong file.Seed plain_text BadLength s (λ e. cc e) is (inl (BadLength, refl, tt))) held less refl
+      (stop_by TooLong file.Seed plain_text BadLength s (λ e. cc e) is (inr refl)) held less refl
       (λ ne. ap (λ b. cond b seed_words (Err BadLength)) (ne_eqb (length bytes) seed_length other))
 
   pub seed_noise : (seed : List ℕ) (place budget : ℕ) → place ≡ command.number_of words Place → budget ≡ command.number_of words Budget → seed ≡ bytes

@@ -2,7 +2,7 @@
 use Rattle.std.proofs.Common.{◌≡◌, ◌∙◌, ◌++◌, ◌∷◌, [], List, ℕ, refl, ap, subst, map, Option}
 use Rattle.std.specs.List.{zip}
 use Rattle.tda_io.specs.Outside.{Written, Tray}
-use Rattle.tda_tool.specs.Words.{pairs_after, values_in, writes_of, write_names, dash}
+use Rattle.tda_command.specs.Words.{pairs_after, values_in, writes_of, write_names, dash}
 use Rattle.tda_tool.specs.Outcome.{whole, Leaves, LeavesReport}
 use Rattle.tda_tool.specs.Ending.{Ending}
 use Rattle.tda_tool.specs.Answer.{target_of, targets_of, outputs_of, files_of, AreOutputs, ReportsAlone}

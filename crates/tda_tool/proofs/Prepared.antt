@@ -4,16 +4,18 @@ use Rattle.std.specs.Result.{IfOk}
 use Rattle.tda_io.specs.Outside.{Shelf}
 use Rattle.tda_io.specs.declared.outside.NoMemory.{NoMemory}
 use Rattle.tda_measure.specs.Noise.{variances_of, IsNoise, IsDetermined}
-use Rattle.tda_tool.specs.Attained.{Inputs}
+use Rattle.tda_model.specs.Release as release
+use Rattle.tda_tool.specs.declared.inputs.Inputs.{Inputs}
 use Rattle.tda_tool.specs.Measuring.{Survey}
-use Rattle.tda_tool.specs.Words.{command_of, form_in, reads_of, pairs_after, values_in}
+use Rattle.tda_command.specs.Words.{command_of, form_in, reads_of, pairs_after, values_in}
 use Rattle.tda_tool.specs.Ending.{Ending}
 use Rattle.tda_tool.specs.Due.{Given, given_by, failing_at, inputs_from, survey_from, task_by, due_task}
 use Rattle.tda_tool.specs.Outcome.{AsksPrefix, asks_all}
-use Rattle.tda_tool.specs.Reading.{place_of_file, Gathers, AsksFiles, CountsRead, Surveys, IsCounted, noise_words}
+use Rattle.tda_tool.specs.Files.{place_of_file}
+use Rattle.tda_tool.specs.Reading.{Gathers, AsksFiles, CountsRead, GathersInputs, Surveys, IsCounted, noise_words}
 use Rattle.tda_tool.specs.Answer.{Suits, SuitsBy, AnswersStop, AnswersBy, AnswersNoise, AsksBy, AsksPrepared, CountsBy, CountsPrepared, IsFitted, HasSurvey, StopsWith}
-use Rattle.tda_tool.specs.declared.words.Command.{Command}
-use Rattle.tda_tool.specs.declared.words.Command.TheVariants as command
+use Rattle.tda_command.specs.declared.words.Command.{Command}
+use Rattle.tda_command.specs.declared.words.Command.TheVariants as command
 use Rattle.tda_tool.specs.declared.reading.Stop.{Stop}
 use Rattle.tda_tool.specs.declared.reading.Stop.TheVariants as stop
 use Rattle.tda_tool.specs.declared.counted.Counted.{Counted}
@@ -45,7 +47,7 @@ module _ {X : Type 0} (words : List (List ℕ)) (n : ℕ) (from : Given → Resu
   stop_suits shelf (stop.Refused r) a gives answers = subst (λ k. SuitsBy k words shelf a) (sym answers.0) (record {
     reads = gives.0;
     fault = r.fault.items;
-    of_fault = gives.1;
+    of_file = gives.1;
     due = refuses shelf _ gives.2;
     alone = answers.1;
   })
@@ -98,8 +100,8 @@ stopped_ok X words n from tasks old new before now e (Err m) gives asked count a
 paths_read : (words : List (List ℕ)) (c : Command) → command_of words ≡ Some c → reads_of words ≡ values_in (pairs_after words) (form_in words (Some c)).reads
 paths_read words c is = ap (λ o. values_in (pairs_after words) (form_in words o).reads) is
 
-four_read : (words : List (List ℕ)) → command_of words ≡ Some command.Fit → take 4 (reads_of words) ≡ reads_of words
-four_read words is = subst (λ paths. take 4 paths ≡ paths) (sym (paths_read words command.Fit is)) refl
+five_files : (words : List (List ℕ)) → command_of words ≡ Some command.Fit → take 5 (reads_of words) ≡ reads_of words
+five_files words is = subst (λ paths. take 5 paths ≡ paths) (sym (paths_read words command.Fit is)) refl
 
 five_read : (words : List (List ℕ)) → command_of words ≡ Some command.Measure → take 5 (reads_of words) ≡ reads_of words
 five_read words is = subst (λ paths. take 5 paths ≡ paths) (sym (paths_read words command.Measure is)) refl
@@ -116,20 +118,22 @@ fit_tasks : (words : List (List ℕ)) → command_of words ≡ Some command.Fit 
 fit_tasks words is given e stops = fit_task words given (Err e) is stops
 
 pub fit_stopped : (words : List (List ℕ)) → command_of words ≡ Some command.Fit → (old new : Option Shelf) (before now : ℕ) (e : Stop) (r : Result Answer NoMemory)
-    → Gathers words 4 inputs_from old (Err e) → AsksFiles {X = Inputs} words 4 old new (Err e) → CountsRead {T = Inputs} before now (Err e) → IfOk r (AnswersStop e) → IsPrepared words old new before now r
-fit_stopped words is = stopped_ok Inputs words 4 inputs_from (fit_tasks words is)
+    → GathersInputs words old (Err e) → AsksFiles {X = Inputs} words 5 old new (Err e) → CountsRead {T = Inputs} before now (Err e) → IfOk r (AnswersStop e) → IsPrepared words old new before now r
+fit_stopped words is old new before now (stop.Refused f) r gives asked count answers = stopped_ok release.Inputs words 5 inputs_from (fit_tasks words is) old new before now (stop.Refused f) r gives asked count answers
+fit_stopped words is old new before now (stop.Read f) r gives asked count answers = stopped_ok release.Inputs words 5 inputs_from (fit_tasks words is) old new before now (stop.Read f) r gives asked count answers
+fit_stopped words is old new before now stop.NoMemory r gives asked count answers = stopped_ok release.Inputs words 5 inputs_from (fit_tasks words is) old new before now stop.NoMemory r gives asked count answers
 
-pub fit_done : (words : List (List ℕ)) → command_of words ≡ Some command.Fit → (old new : Option Shelf) (before now : ℕ) (i : Inputs) (r : Result Answer NoMemory)
-    → Gathers words 4 inputs_from old (Ok i) → new ≡ option_map (asks_all (take 4 (reads_of words))) old → now ≡ before
+pub fit_done : (words : List (List ℕ)) → command_of words ≡ Some command.Fit → (old new : Option Shelf) (before now : ℕ) (i : release.Inputs) (r : Result Answer NoMemory)
+    → Gathers words 5 inputs_from old (Ok i) → new ≡ option_map (asks_all (take 5 (reads_of words))) old → now ≡ before
     → IfOk r (λ a. a.cause ≡ cause.Done) → IfOk r (IsFitted i) → IsPrepared words old new before now r
 fit_done words is old new before now i (Ok a) gives asked same done fitted = record {
-  suits = subst (λ k. SuitsBy k words old a) (sym done) (command.Fit, (i, (is, gathered words 4 inputs_from old i gives), fitted));
-  asked = subst (λ k. AsksBy k words old new) (sym done) (all_of (reads_of words) 4 old new (four_read words is) asked);
+  suits = subst (λ k. SuitsBy k words old a) (sym done) (command.Fit, (i, (is, gathered words 5 inputs_from old i gives), fitted));
+  asked = subst (λ k. AsksBy k words old new) (sym done) (all_of (reads_of words) 5 old new (five_files words is) asked);
   cause = subst (λ k. CountsBy k before now) (sym done) same;
 }
 fit_done words is old new before now i (Err m) gives asked same done fitted = record {
   suits = tt;
-  asked = prefix_of (reads_of words) 4 old new (four_read words is) asked;
+  asked = prefix_of (reads_of words) 5 old new (five_files words is) asked;
   cause = omega arith;
 }
 

@@ -2,7 +2,6 @@
 use Rattle.std.proofs.Common.{◌≡◌, ◌≢◌, ◌∙◌, ◌++◌, ◌∷◌, ◌+◌, ◌⊎◌, [], List, ℕ, ℤ, length, take, refl, sym, ap, subst, Option, Some, None, IfSome, option_map, inl, inr, Result, Ok, Err, slice_index_or, arith}
 use Rattle.std.specs.Result.{IfOk}
 use Rattle.std.proofs.lemmas.List.{length-map}
-use Rattle.std.proofs.lemmas.Option.{get_or_from_slice_get}
 use Rattle.tda_io.specs.Due.{◌>>=◌}
 use Rattle.tda_io.specs.Outside.{Shelf, Tray}
 use Rattle.tda_model.specs.TablesText.{tables_text}
@@ -13,16 +12,19 @@ use Rattle.tda_io.specs.declared.outside.OutFault.{OutFault}
 use Rattle.tda_io.specs.declared.outside.OutFault.TheVariants as fault_out
 use Rattle.tda_measure.specs.Noise.{variances_of, IsNoise, IsDetermined}
 use Rattle.tda_measure.specs.declared.stop.MeasureStop.{MeasureStop}
-use Rattle.tda_tool.specs.Attained.{Inputs}
+use Rattle.tda_model.specs.Deviation.{square}
+use Rattle.tda_model.specs.Tables.{Tables}
+use Rattle.tda_model.specs.Release.{Inputs, IsRelease}
+use Rattle.tda_tool.specs.Fitting.{fitted_ending, pricing_text}
 use Rattle.tda_tool.specs.Measuring.{Survey, state_counts, noise_ending, stop_ending, measured_ending, MeasureEnds}
-use Rattle.tda_tool.specs.Words.{command_of, form_in, reads_of, writes_of, read_names, write_names, pairs_after, values_in, dash}
-use Rattle.tda_tool.specs.Ending.{Ending, words_ending, refused_ending, read_ending, fit_ending}
-use Rattle.tda_tool.specs.Due.{Given, Task, Fits, Measures, EndsBy, Due, IsDue, IsDueStatus, task_of, task_by, due_task, inputs_from, survey_from, given_by, failing_at}
-use Rattle.tda_tool.specs.Outcome.{IsSettled, whole, asks_all, Leaves, LeavesReport, LeavesAll, ReportsDue, FitWrote, MeasureWrote, NoiseStopped, FileRefused, ReadFailed, AsksPrefix, BeginsPrefix, BeginsWhenDue}
-use Rattle.tda_tool.specs.Reading.{name_of, place_of_file, IsRead}
+use Rattle.tda_command.specs.Words.{command_of, form_in, reads_of, writes_of, read_names, write_names, pairs_after, values_in, dash}
+use Rattle.tda_tool.specs.Ending.{Ending, words_ending, refused_ending}
+use Rattle.tda_tool.specs.Due.{Given, Task, Fits, Measures, EndsBy, Due, IsDue, IsDueStatus, task_of, task_by, due_task, inputs_from, survey_from, given_by}
+use Rattle.tda_tool.specs.Outcome.{IsSettled, whole, asks_all, Leaves, LeavesAll, ReportsDue, FitWrote, MeasureWrote, NoiseStopped, FileRefused, ReadFailed, AsksPrefix, BeginsPrefix, BeginsWhenDue}
+use Rattle.tda_tool.specs.Files.{name_of, place_of_file, IsRead}
 use Rattle.tda_tool.specs.Answer.{status_by, Suits, SuitsBy, IsDone, HasInputs, HasSurvey, IsFitted, IsMeasured, StopsWith, RefusesFile, FailsAt, ReportsAlone, WritesNames, Asks, AsksBy, CountsBy, files_of, target_of, targets_of, status_of}
-use Rattle.tda_tool.specs.declared.words.Command.{Command}
-use Rattle.tda_tool.specs.declared.words.Command.TheVariants as command
+use Rattle.tda_command.specs.declared.words.Command.{Command}
+use Rattle.tda_command.specs.declared.words.Command.TheVariants as command
 use Rattle.tda_tool.specs.declared.reading.File.{File}
 use Rattle.tda_tool.specs.declared.answer.Answer.{Answer}
 use Rattle.tda_tool.specs.declared.answer.Cause.{Cause}
@@ -69,8 +71,15 @@ measure_task words given r is held = ap (task_if words given) is ∙ ap to_measu
 words_task : (words : List (List ℕ)) (given : Given) → command_of words ≡ None → task_by words given ≡ Err words_ending
 words_task words given is = ap (task_if words given) is
 
-fit_due : (words : List (List ℕ)) (s : Shelf) (i : Inputs) → HasInputs words (Some s) i → IsDue words s.holds (fit_ending i.spine)
-fit_due words s i has = due_from words s.holds (Ok (Fits i)) _ (fit_task words (given_by words s.holds) (Ok i) has.0 has.1) refl (λ d h. h)
+-- `fit` may end with any release, always with status 0
+fit_due : (words : List (List ℕ)) (s : Shelf) (i : Inputs) → HasInputs words (Some s) i → (x : Tables) → IsRelease square i x → IsDue words s.holds (fitted_ending i x)
+fit_due words s i has x release =
+    let is = fit_task words (given_by words s.holds) (Ok i) has.0 has.1 in
+    record {
+      due = subst (λ t. EndsBy t (fitted_ending i x)) (sym is) (record { tables = x; release = release; ending = refl });
+      status = λ d h. let ends : EndsBy (Ok (Fits i)) d = subst (λ t. EndsBy t d) is h in ap (λ e. e.status) ends.ending;
+      report = λ some d h. absurd (some refl);
+    }
 
 -- one ending alone belongs to what the noise comes to
 noise_alone : (v : Survey) → IsDetermined (IsNoise (variances_of v.schema v.spine)) → (noise : Result (List ℤ) MeasureStop) (rest : List ℕ)
@@ -96,8 +105,8 @@ record DueAnswer (words : List (List ℕ)) (holds : List ℕ → Option (List �
 
 done_due : (c : Command) (words : List (List ℕ)) (s : Shelf) (a : Answer) → IsDone c words (Some s) a → DueAnswer words s.holds 0 a
 done_due command.Fit words s a done = record {
-  ending = fit_ending done.0.spine;
-  due = fit_due words s done.0 done.1;
+  ending = fitted_ending done.0 done.2.tables;
+  due = fit_due words s done.0 done.1 done.2.tables done.2.certified.release;
   status_is = refl;
   alone = λ some. absurd (some refl);
 }
@@ -202,8 +211,12 @@ wrote_tables words s a old new i has fitted left = record {
   inputs = i;
   accepted = has.1;
   tables = fitted.tables;
-  attained = fitted.attained;
-  written = subst (λ paths. Leaves (whole (slice_index_or paths 0 []) (tables_text i.schema i.spine fitted.tables) ∷ whole dash (fit_ending i.spine).report ∷ []) old new)
+  price = fitted.price;
+  certified = fitted.certified;
+  written = subst (λ paths. Leaves
+      (whole (slice_index_or paths 0 []) (tables_text i.schema i.spine fitted.tables)
+      ∷ whole (slice_index_or paths 1 []) (pricing_text i fitted.price)
+      ∷ whole dash (fitted_ending i fitted.tables).report ∷ []) old new)
       (paths_for words command.Fit has.0)
       (subst (λ files. Leaves files old new) (files_are words _ _ _ a fitted.outputs fitted.report) left);
 }
@@ -216,6 +229,7 @@ wrote_measured words s a old new v has made left = record {
   measurements = made.measurements;
   taken = made.taken;
   measured = made.measured;
+  within = made.tells.within;
   written = subst (λ paths. Leaves
       (whole (slice_index_or paths 0 []) (measurements_text v.schema v.spine made.measurements)
       ∷ whole (slice_index_or paths 1 []) (totals_text v.spine (state_counts v.spine v.records))
@@ -292,19 +306,16 @@ all_written words shelf (Err fault_out.NoMemory) old new suits left zero = cc ze
 
 -- ---- which words, which file, which place
 
-name_at : (words : List (List ℕ)) (f : File) → IsRead words f → slice_index_or (read_names words) (place_of_file f) [] ≡ name_of f
-name_at words f is = get_or_from_slice_get (read_names words) (place_of_file f) (name_of f) [] is
-
 refused_file : (words : List (List ℕ)) (f : File) (shelf shelf_new : Option Shelf) (a : Answer) (old new : Option Tray) → RefusesFile words shelf f a → AsksBy (cause.Refused f) words shelf shelf_new
     → Leaves (files_of words a) old new → FileRefused words shelf shelf_new old new
 refused_file words f shelf shelf_new a old new suits asked left = record {
-  file = place_of_file f;
-  within = file_within words f suits.reads;
+  file = f;
+  reads = suits.reads;
   asked = asked;
   fault = suits.fault;
-  of_fault = suits.of_fault;
-  refused = subst (λ name. IfSome shelf (λ s. due_task words s.holds ≡ Err (refused_ending name suits.fault))) (sym (name_at words f suits.reads)) suits.due;
-  written = subst (λ name. LeavesReport (refused_ending name suits.fault).report old new) (sym (name_at words f suits.reads)) (report_alone words _ a old new suits.alone left);
+  of_file = suits.of_file;
+  refused = suits.due;
+  written = report_alone words _ a old new suits.alone left;
 }
 
 refused_by : (k : Cause) (words : List (List ℕ)) (shelf shelf_new : Option Shelf) (a : Answer) (old new : Option Tray) → SuitsBy k words shelf a → AsksBy k words shelf shelf_new
@@ -325,11 +336,11 @@ refused words (Err fault_out.NoMemory) shelf shelf_new old new suits asked left 
 read_file : (words : List (List ℕ)) (f : File) (shelf shelf_new : Option Shelf) (a : Answer) (old new : Option Tray) → FailsAt words shelf f a → AsksBy (cause.Read f) words shelf shelf_new
     → Leaves (files_of words a) old new → ReadFailed words shelf shelf_new old new
 read_file words f shelf shelf_new a old new suits asked left = record {
-  file = place_of_file f;
-  within = file_within words f suits.reads;
+  file = f;
+  reads = suits.reads;
   asked = asked;
-  accepted = subst (λ name. IfSome shelf (λ s. task_by words (failing_at (place_of_file f) (given_by words s.holds)) ≡ Err (read_ending name))) (sym (name_at words f suits.reads)) suits.due;
-  written = subst (λ name. LeavesReport (read_ending name).report old new) (sym (name_at words f suits.reads)) (report_alone words _ a old new suits.alone left);
+  accepted = suits.due;
+  written = report_alone words _ a old new suits.alone left;
 }
 
 failed_by : (k : Cause) (words : List (List ℕ)) (shelf shelf_new : Option Shelf) (a : Answer) (old new : Option Tray) → SuitsBy k words shelf a → AsksBy k words shelf shelf_new

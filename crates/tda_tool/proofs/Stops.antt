@@ -3,10 +3,11 @@ use Rattle.std.proofs.Common.{◌≡◌, ◌≢◌, ◌≤◌, ◌<◌, ◌+◌,
 use Rattle.std.specs.Result.{IsErrAnd}
 use Rattle.tda_io.specs.Due.{◌>>=◌}
 use Rattle.tda_io.specs.Outside.{Shelf, asks}
-use Rattle.tda_tool.specs.Words.{reads_of}
+use Rattle.tda_command.specs.Words.{reads_of}
 use Rattle.tda_tool.specs.Ending.{Ending, read_ending, refused_ending}
 use Rattle.tda_tool.specs.Due.{Given, given_by, failing_at}
-use Rattle.tda_tool.specs.Reading.{name_of, place_of_file, limit_of, path_of, IsRead, GivesBy, GivesFile, IsStop, Agree, Gathers, AsksFile, AsksFiles, CountsRead}
+use Rattle.tda_tool.specs.Files.{name_of, place_of_file, limit_of, IsRead, IsFaultOf}
+use Rattle.tda_tool.specs.Reading.{path_of, GivesBy, GivesFile, IsStop, Agree, Gathers, AsksFile, AsksFiles, CountsRead}
 use Rattle.tda_tool.specs.declared.reading.File.{File}
 use Rattle.tda_tool.specs.declared.reading.Stop.{Stop}
 use Rattle.tda_tool.specs.declared.reading.Stop.TheVariants as stop
@@ -76,11 +77,11 @@ module _ {X : Type 0} (words : List (List ℕ)) (whole : Given → Result X Endi
     -- a file that stops the reading
     gathers_none : (n : ℕ) (shelf : Option Shelf) (e : Stop) → from None ≡ Err (read_ending (name_of f)) → IsRead words f → HasCome shelf (place_of_file f) (goes_on f from next) → GivesBy words f from shelf (Err e) → Gathers words n whole shelf (Err e)
     gathers_none n shelf stop.NoMemory none reads come given = tt
-    gathers_none n None (stop.Refused r) none reads come given = (subst (IsRead words) (sym given.0) reads, given.1, tt)
+    gathers_none n None (stop.Refused r) none reads come given = (subst (IsRead words) (sym given.0) reads, subst (λ g. IsFaultOf g r.fault.items) (sym given.0) given.1, tt)
     gathers_none n None (stop.Read g) none reads come given = (subst (IsRead words) (sym given) reads, tt)
     gathers_none n (Some h) (stop.Refused r) none reads come given = (
       subst (IsRead words) (sym given.0) reads,
-      given.1,
+      subst (λ g. IsFaultOf g r.fault.items) (sym given.0) given.1,
       come (given_by words h.holds) (λ m l. refl)
           ∙ ap (λ o. o >>= (λ y. next y (given_by words h.holds))) given.2
           ∙ sym (ap (λ g. let ended : Result X Ending = Err (refused_ending (name_of g) r.fault.items) in ended) given.0),

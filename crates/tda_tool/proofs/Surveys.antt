@@ -1,5 +1,5 @@
 -- The files of `measure`, one after the other.
-use Rattle.std.proofs.Common.{◌≡◌, refl, arith, List, ℕ, length, Option, Some, option_map, slice_get, Result, Ok, Err, codes}
+use Rattle.std.proofs.Common.{◌≡◌, refl, arith, List, ℕ, length, Option, Some, None, ap, option_map, slice_get, Result, Ok, Err, codes}
 use Rattle.std.specs.Result.{IsErrAnd}
 use Rattle.tda_io.specs.Due.{◌>>=◌}
 use Rattle.tda_io.specs.Outside.{Shelf, asks}
@@ -10,22 +10,24 @@ use Rattle.tda_hist.specs.TrueTable.{true_count}
 use Rattle.tda_hist.specs.Agreement.{agree_due}
 use Rattle.tda_hist.specs.declared.fault.HistFault.{HistFault}
 use Rattle.tda_tool.specs.Measuring.{Survey, noise_from}
-use Rattle.tda_tool.specs.Words.{command_of, measure_form, source_of}
+use Rattle.tda_command.specs.Words.{command_of, measure_form, source_of}
 use Rattle.tda_tool.specs.Ending.{Ending, judged_file}
 use Rattle.tda_tool.specs.Due.{Given, base_from, records_from, survey_from}
-use Rattle.tda_tool.specs.Refusal.{records_text, hist_text}
-use Rattle.tda_tool.specs.Reading.{name_of, place_of_file, path_of, IsRead, GivesBy, GivesFile, GivesTables, GivesNoise, Judges, AreTrueCounts, AsksFile, Gathers, AsksFiles, noise_words, source_path, IsCounted, Surveys}
+use Rattle.tda_refusal.specs.Refusal.{records_text, hist_text}
+use Rattle.tda_tool.specs.Files.{name_of, place_of_file, IsRead}
+use Rattle.tda_tool.specs.Reading.{path_of, GivesBy, GivesFile, GivesTables, GivesNoise, Judges, AreTrueCounts, AsksFile, Gathers, AsksFiles, noise_words, source_path, IsCounted, Surveys}
 use Rattle.tda_tool.specs.declared.base.Base.{Base}
 use Rattle.tda_tool.specs.declared.counted.Counted.{Counted}
 use Rattle.tda_tool.specs.declared.noise.Noise.{Noise}
-use Rattle.tda_tool.specs.declared.words.Command.TheVariants.{Measure}
-use Rattle.tda_tool.specs.declared.words.Source.{Source}
-use Rattle.tda_tool.specs.declared.words.Source.TheVariants as source
+use Rattle.tda_command.specs.declared.words.Command.TheVariants.{Measure}
+use Rattle.tda_command.specs.declared.words.Source.{Source}
+use Rattle.tda_command.specs.declared.words.Source.TheVariants as source
 use Rattle.tda_tool.specs.declared.reading.File.TheVariants as file
 use Rattle.tda_tool.specs.declared.reading.Stop.{Stop}
+use Rattle.tda_tool.specs.declared.reading.Stop.TheVariants as stop
 use Rattle.tda_tool.proofs.Asked.{file_within}
 use Rattle.tda_tool.proofs.Stops.{From, HasRead, read_on, halted, part_read, asks_stopped, asks_file_stopped}
-use Rattle.tda_tool.proofs.Beside.{accepted_beside, refused_beside}
+use Rattle.tda_tool.proofs.Beside.{and_beside, accepted_beside, refused_beside}
 use Rattle.tda_tool.proofs.Agreed.{same_due}
 use Rattle.tda_tool.proofs.Fitted.{reads_at}
 
@@ -63,6 +65,18 @@ module _ (words : List (List ℕ)) (b : Base) where
     tables_disagree e (Err x) same judges =
         let judged : Judges {X = Unit {0}} file.Records (hist_text b.schema b.spine) (agrees rs) (Err e) = by_table (Unit {0}) (Err e) judges in
         rw same (refused_beside words file.Records records_file (hist_text b.schema b.spine) agrees (Unit {0}) shelf rs e gives judged)
+
+  -- records that aren't read
+  unread : (shelf : Option Shelf) (e : Stop) → GivesFile {A = List Record} words file.Records records_text (records.read b.schema b.spine) shelf (Err e) → GivesBy {A = List Record} words file.Records (records_from b) shelf (Err e)
+  unread shelf stop.NoMemory gives = tt
+  unread shelf (stop.Read g) gives = gives
+  unread None (stop.Refused r) gives = (gives.0, gives.1, tt)
+  unread (Some h) (stop.Refused r) gives = (gives.0, gives.1, ap (λ o. o >>= and_beside words file.Records records_file (hist_text b.schema b.spine) agrees) gives.2)
+
+  pub tables_unread : (shelf : Option Shelf) (e : Stop) (r : Result Counts Stop) → IsErrAnd r (λ x. x ≡ e)
+      → GivesFile {A = List Record} words file.Records records_text (records.read b.schema b.spine) shelf (Err e) → GivesTables words b shelf r
+  tables_unread shelf e (Ok cs) same gives = absurd same
+  tables_unread shelf e (Err x) same gives = rw same (unread shelf e gives)
 
 -- ---- all files
 

@@ -3,18 +3,18 @@ use Rattle.std.proofs.Common.{◌≡◌, [], ◌∷◌, ◌++◌, List, ℕ, ref
 use Rattle.std.specs.Fmt.{digits}
 use Rattle.tda_model.specs.Schema.{Schema}
 use Rattle.tda_model.specs.Spine.{Spine}
-use Rattle.tda_tool.specs.Words.{command_of, value_of, reads_of, writes_of}
+use Rattle.tda_command.specs.Words.{command_of, value_of, reads_of, writes_of}
 use Rattle.tda_tool.specs.Ending.{words_ending, read_ending}
 use Rattle.tda_tool.specs.Due.{due_task}
-use Rattle.tda_tool.specs.Refusal.{plain_text, named_text}
-use Rattle.tda_tool.specs.declared.refusal.Plain.TheVariants as plain
-use Rattle.tda_tool.specs.declared.refusal.Named.TheVariants as named
+use Rattle.tda_refusal.specs.Refusal.{plain_text, named_text}
+use Rattle.tda_refusal.specs.declared.text.Plain.TheVariants as plain
+use Rattle.tda_refusal.specs.declared.text.Named.TheVariants as named
 use Rattle.tda_spine.specs.declared.fault.SpineFault.TheVariants as spine_fault
 use Rattle.tda_invar.specs.declared.fac_fault.FacFault.TheVariants as facility_fault
 use Rattle.tda_invar.specs.declared.tot_fault.TotFault.TheVariants as total_fault
 use Rattle.tda_invar.specs.declared.join_fault.JoinFault.TheVariants as join_fault
 use Rattle.tda_hist.specs.declared.fault.HistFault.TheVariants as hist_fault
-use Rattle.tda_tool.specs.declared.words.Command.TheVariants.{Fit, Measure}
+use Rattle.tda_command.specs.declared.words.Command.TheVariants.{Fit, Measure}
 
 abbrev pair : List ℕ → List ℕ → List (List ℕ)
 pair name value = name ∷ value ∷ []
@@ -31,8 +31,14 @@ facilities = pair (codes "--facilities") (codes "c")
 abbrev totals : List (List ℕ)
 totals = pair (codes "--totals") (codes "d")
 
+abbrev measurements : List (List ℕ)
+measurements = pair (codes "--measurements") (codes "m")
+
+abbrev prices : List (List ℕ)
+prices = pair (codes "--prices") (codes "p")
+
 abbrev fit : List (List ℕ) → List (List ℕ)
-fit tables = codes "fit" ∷ schema ++ spine ++ facilities ++ totals ++ tables
+fit tables = codes "fit" ∷ schema ++ spine ++ facilities ++ totals ++ measurements ++ prices ++ tables
 
 abbrev words : List (List ℕ)
 words = fit (pair (codes "--tables") (codes "e"))
@@ -40,13 +46,13 @@ words = fit (pair (codes "--tables") (codes "e"))
 a_command : command_of words ≡ Some Fit
 a_command = refl
 
-any_order : command_of (codes "fit" ∷ pair (codes "--tables") (codes "e") ++ totals ++ schema ++ facilities ++ spine) ≡ Some Fit
+any_order : command_of (codes "fit" ∷ pair (codes "--tables") (codes "e") ++ totals ++ schema ++ prices ++ facilities ++ measurements ++ spine) ≡ Some Fit
 any_order = refl
 
-read : reads_of words ≡ codes "a" ∷ codes "b" ∷ codes "c" ∷ codes "d" ∷ []
+read : reads_of words ≡ codes "a" ∷ codes "b" ∷ codes "c" ∷ codes "d" ∷ codes "m" ∷ []
 read = refl
 
-written : writes_of words ≡ codes "e" ∷ []
+written : writes_of words ≡ codes "e" ∷ codes "p" ∷ []
 written = refl
 
 -- a value is one by its place
@@ -56,13 +62,13 @@ by_place = refl
 no_words : command_of [] ≡ None
 no_words = refl
 
-a_name_missing : command_of (codes "fit" ∷ schema ++ spine ++ totals ++ pair (codes "--tables") (codes "e")) ≡ None
+a_name_missing : command_of (codes "fit" ∷ schema ++ spine ++ totals ++ measurements ++ prices ++ pair (codes "--tables") (codes "e")) ≡ None
 a_name_missing = refl
 
-a_name_twice : command_of (codes "fit" ∷ schema ++ schema ++ facilities ++ totals ++ pair (codes "--tables") (codes "e")) ≡ None
+a_name_twice : command_of (codes "fit" ∷ schema ++ schema ++ facilities ++ totals ++ measurements ++ prices ++ pair (codes "--tables") (codes "e")) ≡ None
 a_name_twice = refl
 
-another_name : command_of (codes "fit" ∷ schema ++ spine ++ facilities ++ totals ++ pair (codes "--prices") (codes "e")) ≡ None
+another_name : command_of (fit (pair (codes "--ledger") (codes "e"))) ≡ None
 another_name = refl
 
 to_standard_output : command_of (fit (pair (codes "--tables") (codes "-"))) ≡ None

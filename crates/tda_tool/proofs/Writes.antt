@@ -9,13 +9,13 @@ use Rattle.std.proofs.lemmas.List.Folds.{list_all_at}
 use Rattle.std.proofs.lemmas.List.Sums.{count_by_more_yes, sum_by-append, sum_by-cons}
 use Rattle.tda_io.specs.Outside.{Tray, Written, IsNew, file_at}
 use Rattle.tda_io.specs.declared.outside.OutFault.{OutFault}
-use Rattle.tda_tool.specs.Words.{Form, command_of, form_of, form_in, source_of, commands, pairs_of, pairs_after, values_in, reads_of, writes_of, is_free, has_form, has_values, dash}
+use Rattle.tda_command.specs.Words.{Form, command_of, form_of, form_in, source_of, commands, pairs_of, pairs_after, values_in, reads_of, writes_of, is_free, has_form, has_values, dash}
 use Rattle.tda_tool.specs.Outcome.{whole, with_last, with_all, IsEmpty, Leaves, AsksBegin}
 use Rattle.tda_tool.specs.Output.{part, LeavesPart, BeginsFirst}
 use Rattle.tda_tool.specs.Answer.{target_of, targets_of, outputs_of, WritesNames}
 use Rattle.tda_tool.specs.declared.answer.Output.{Output}
 use Rattle.tda_tool.specs.declared.answer.Answer.{Answer}
-use Rattle.tda_tool.specs.declared.words.Command.{Command}
+use Rattle.tda_command.specs.declared.words.Command.{Command}
 use Rattle.tda_tool.proofs.Begun.{given_up_asks, asks_then}
 use Rattle.tda_tool.proofs.Files.{same_name, other_name}
 use Rattle.tda_tool.proofs.Outputs.{no_targets, targets_written}

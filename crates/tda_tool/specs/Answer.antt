@@ -9,6 +9,8 @@ use Rattle.tda_model.specs.Schema.{Schema}
 use Rattle.tda_model.specs.Spine.{Spine}
 use Rattle.tda_model.specs.Tables.{Tables}
 use Rattle.tda_model.specs.TablesText.{tables_text}
+use Rattle.tda_frac.specs.Fraction.{IsAtMost}
+use Rattle.tda_schema.specs.Shares.{frac_of, spent_of}
 use Rattle.tda_invar.specs.Totals.{totals_text}
 use Rattle.tda_ledger.specs.LedgerText.{ledger_text}
 use Rattle.tda_places.specs.Measurements.{measurements_text}
@@ -17,16 +19,18 @@ use Rattle.tda_hist.specs.TrueTable.{state_persons}
 use Rattle.tda_measure.specs.Measured.{AreMeasured, HaveFewPersons}
 use Rattle.tda_measure.specs.Noise.{variances_of, IsDetermined, IsNoise, NoiseStops}
 use Rattle.tda_measure.specs.declared.stop.MeasureStop.{MeasureStop}
-use Rattle.tda_tool.specs.Attained.{Inputs, IsAttained}
+use Rattle.tda_model.specs.Release.{Inputs}
+use Rattle.tda_prices.specs.Items.{Pricing}
+use Rattle.tda_tool.specs.Fitting.{IsCertifiedRelease, pricing_text, fitted_ending}
 use Rattle.tda_tool.specs.Measuring.{Survey, state_counts, stop_ending, measured_ending, MeasuresSurvey}
-use Rattle.tda_tool.specs.Words.{command_of, pairs_after, value_or_empty, reads_of, write_names, dash}
-use Rattle.tda_tool.specs.Ending.{Ending, words_ending, refused_ending, read_ending, fit_ending}
+use Rattle.tda_command.specs.Words.{command_of, pairs_after, value_or_empty, reads_of, write_names, dash}
+use Rattle.tda_tool.specs.Ending.{Ending, words_ending, refused_ending, read_ending}
 use Rattle.tda_tool.specs.Due.{inputs_from, survey_from, given_by, failing_at, task_by, due_task}
 use Rattle.tda_tool.specs.Outcome.{whole, asks_all, AsksPrefix}
-use Rattle.tda_tool.specs.Refusal.{IsFaultText}
-use Rattle.tda_tool.specs.Reading.{name_of, place_of_file, IsRead, IsSource}
-use Rattle.tda_tool.specs.declared.words.Command.{Command}
-use Rattle.tda_tool.specs.declared.words.Command.TheVariants as command
+use Rattle.tda_tool.specs.Files.{name_of, place_of_file, IsRead, IsFaultOf}
+use Rattle.tda_tool.specs.Reading.{IsSource}
+use Rattle.tda_command.specs.declared.words.Command.{Command}
+use Rattle.tda_command.specs.declared.words.Command.TheVariants as command
 use Rattle.tda_tool.specs.declared.reading.File.{File}
 use Rattle.tda_tool.specs.declared.reading.Stop.{Stop}
 use Rattle.tda_tool.specs.declared.reading.Stop.TheVariants as stop
@@ -78,17 +82,19 @@ pub record ReportsAlone (e : Ending) (a : Answer) : Type 0 where
   pub outputs : a.outputs.items ≡ []
   pub report : a.report.items ≡ e.report
 
--- the text of tables that are attained, and the number of fits
+-- the files of a release and of prices that certify it, and the line that tells its deviation
 pub record IsFitted (i : Inputs) (a : Answer) : Type 0 where
   pub tables : Tables
-  pub attained : IsAttained i tables
-  pub outputs : AreOutputs (codes "tables" ∷ []) (tables_text i.schema i.spine tables ∷ []) a
-  pub report : a.report.items ≡ (fit_ending i.spine).report
+  pub price : Pricing
+  pub certified : IsCertifiedRelease i tables price
+  pub outputs : AreOutputs (codes "tables" ∷ codes "prices" ∷ []) (tables_text i.schema i.spine tables ∷ pricing_text i price ∷ []) a
+  pub report : a.report.items ≡ (fitted_ending i tables).report
 
--- the files of measurements, totals and ledger, and the line that tells of them
+-- the files of measurements, totals and ledger, whose sum is at most the total, and the line that tells of them
 pub record Tells (s : Schema) (sp : Spine) (m : List ℤ) (totals : List ℕ) (taken : ℕ) (a : Answer) : Type 0 where
   pub outputs : AreOutputs (codes "measurements" ∷ codes "totals" ∷ codes "ledger" ∷ []) (measurements_text s sp m ∷ totals_text sp totals ∷ ledger_text s ∷ []) a
   pub report : a.report.items ≡ (measured_ending s sp taken).report
+  pub within : IsAtMost (frac_of (spent_of s)) (frac_of s.total)
 
 -- what is measured of these tables with these words
 pub record MeasuresWith (c : Counted) (words : List ℕ) (a : Answer) : Type 0 where
@@ -151,7 +157,7 @@ IsDone command.Measure words shelf a = (v : Survey) × HasSurvey words shelf v �
 pub record RefusesFile (words : List (List ℕ)) (shelf : Option Shelf) (f : File) (a : Answer) : Type 0 where
   pub reads : IsRead words f
   pub fault : List ℕ
-  pub of_fault : IsFaultText fault
+  pub of_file : IsFaultOf f fault
   pub due : IfSome shelf (λ s. due_task words s.holds ≡ Err (refused_ending (name_of f) fault))
   pub alone : ReportsAlone (refused_ending (name_of f) fault) a
 

@@ -1,5 +1,5 @@
 -- How the program is due to end, and its report, by its words and what the inbox holds.
-use Rattle.std.specs.Prelude.{ℕ, ◌≡◌, ◌≢◌, ◌==◌, if◌then◌else◌, codes, List, [], slice_index_or, Option, Some, None, Result, Ok, Err}
+use Rattle.std.specs.Prelude.{ℕ, ℤ, ◌≡◌, ◌≢◌, ◌==◌, if◌then◌else◌, codes, List, [], slice_index_or, Option, Some, None, Result, Ok, Err}
 use Rattle.tda_io.specs.Due.{◌>>=◌}
 use Rattle.tda_schema.specs.Read as schema
 use Rattle.tda_spine.specs.Judged as spine
@@ -10,14 +10,18 @@ use Rattle.tda_records.specs.Records as records
 use Rattle.tda_records.specs.declared.records.Record.{Record}
 use Rattle.tda_hist.specs.TrueTable.{true_count}
 use Rattle.tda_hist.specs.Agreement.{agree_due}
-use Rattle.tda_tool.specs.Attained.{Inputs}
+use Rattle.tda_model.specs.Release.{Inputs}
+use Rattle.tda_model.specs.Schema.{Schema}
+use Rattle.tda_model.specs.Spine.{Spine}
+use Rattle.tda_places.specs.Measurements as measurements
 use Rattle.tda_tool.specs.Measuring.{Survey, noise_from, MeasureEnds}
-use Rattle.tda_tool.specs.Words.{command_of, reads_of, source_of}
-use Rattle.tda_tool.specs.Ending.{Ending, words_ending, fit_ending, or_refused, judged_file}
-use Rattle.tda_tool.specs.Refusal.{schema_text, spine_text, facilities_text, totals_text, join_text, records_text, hist_text}
+use Rattle.tda_tool.specs.Fitting.{inputs_by, FitEnds}
+use Rattle.tda_command.specs.Words.{command_of, reads_of, source_of}
+use Rattle.tda_tool.specs.Ending.{Ending, words_ending, written_limit, or_refused, judged_file, judged_within}
+use Rattle.tda_refusal.specs.Refusal.{schema_text, spine_text, facilities_text, totals_text, join_text, records_text, hist_text, measurements_text}
 use Rattle.tda_tool.specs.declared.base.Base.{Base}
-use Rattle.tda_tool.specs.declared.words.Command.{Command}
-use Rattle.tda_tool.specs.declared.words.Command.TheVariants as command
+use Rattle.tda_command.specs.declared.words.Command.{Command}
+use Rattle.tda_command.specs.declared.words.Command.TheVariants as command
 
 -- what the reads of a command's files gave, by number: a read that failed gave nothing
 abbrev pub Given : Type 0
@@ -55,12 +59,17 @@ records_from b given = do
   _ ← or_refused (codes "records") (hist_text b.schema b.spine) (agree_due b.schema b.spine b.facilities (true_count b.spine r))
   Ok r
 
+-- the measurements, or how the program ends
+abbrev pub measurements_from : Schema → Spine → Option (List ℕ) → Result (List ℤ) Ending
+measurements_from s sp given = judged_within written_limit (codes "measurements") measurements_text (measurements.read s sp) given
+
 -- the inputs of `fit`, or how the program ends
 abbrev pub inputs_from : Given → Result Inputs Ending
 inputs_from given = do
   b ← base_from given
   t ← totals_from b (given 3)
-  Ok (record { schema = b.schema; spine = b.spine; facilities = b.facilities; totals = t })
+  m ← measurements_from b.schema b.spine (given 4)
+  Ok (inputs_by b.schema b.spine (known b.spine b.facilities t) m)
 
 -- what `measure` measures, or how the program ends
 abbrev pub survey_from : List (List ℕ) → Given → Result Survey Ending
@@ -86,7 +95,7 @@ task_by words given = elim (command_of words) [ None ↦ Err words_ending | Some
 
 -- how a task ends
 abbrev pub TaskEnds : Task → Ending → Type 0
-TaskEnds (Fits i) e = e ≡ fit_ending i.spine
+TaskEnds (Fits i) e = FitEnds i e
 TaskEnds (Measures v) e = MeasureEnds v e
 
 abbrev pub EndsBy : Result Task Ending → Ending → Type 0

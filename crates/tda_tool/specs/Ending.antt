@@ -3,8 +3,8 @@ use Rattle.std.specs.Prelude.{ℕ, ℤ, ◌^◌, if◌then◌else◌, codes, Lis
 use Rattle.std.specs.Fmt.{decimal, signed_decimal}
 use Rattle.tda_frac.specs.Fraction.{Fraction, text_of}
 use Rattle.tda_model.specs.Spine.{Spine, fit_count}
-use Rattle.tda_tool.specs.Refusal.{plain_text}
-use Rattle.tda_tool.specs.declared.refusal.Plain.TheVariants.{TooLong}
+use Rattle.tda_refusal.specs.Refusal.{plain_text}
+use Rattle.tda_refusal.specs.declared.text.Plain.TheVariants.{TooLong}
 
 -- a status and a report
 pub record Ending : Type 0 where
@@ -37,8 +37,9 @@ too_large_ending place magnitude = record { status = 7; report = line (codes "to
 abbrev pub memory_ending : Ending
 memory_ending = record { status = 8; report = line (codes "memory") }
 
-abbrev pub fit_ending : Spine → Ending
-fit_ending sp = record { status = 0; report = line (codes "ok fit fits=" ++ decimal (fit_count sp)) }
+-- so many fits were made, with this deviation in all
+abbrev pub fit_ending : Spine → ℕ → Ending
+fit_ending sp deviation = record { status = 0; report = line (codes "ok fit fits=" ++ decimal (fit_count sp) ++ codes " deviation=" ++ decimal deviation) }
 
 -- so many places were measured, with that spent and so many words taken
 abbrev pub measure_ending : ℕ → Fraction → ℕ → Ending
@@ -47,9 +48,12 @@ measure_ending places spent taken = record {
   report = line (codes "ok measure places=" ++ decimal places ++ codes " spent=" ++ text_of spent ++ codes " words=" ++ decimal taken);
 }
 
--- the longest file that is read, and the length of a seed
+-- the longest file that is read, that of a kind that the program writes too, and the length of a seed
 abbrev pub file_limit : ℕ
 file_limit = 2 ^ 28
+
+abbrev pub written_limit : ℕ
+written_limit = 2 ^ 30
 
 abbrev pub seed_length : ℕ
 seed_length = 32

@@ -1,11 +1,10 @@
-pub mod Words
-pub mod Attained
-pub mod Plain
-pub mod Refusal
 pub mod Ending
+pub mod Files
 pub mod Measuring
+pub mod Fitting
 pub mod Due
 pub mod Outcome
 pub mod Reading
+pub mod Texts
 pub mod Output
 pub mod Answer

@@ -14,14 +14,14 @@ use Rattle.tda_measure.specs.Measured.{AreMeasured}
 use Rattle.tda_measure.specs.Noise.{variances_of, IsNoise}
 use Rattle.tda_measure.specs.declared.stop.MeasureStop.{MeasureStop}
 use Rattle.tda_measure.specs.declared.stop.MeasureStop.TheVariants as stop
-use Rattle.tda_tool.specs.Words.{number_of}
+use Rattle.tda_command.specs.Words.{number_of}
 use Rattle.tda_tool.specs.Ending.{Ending, file_limit, seed_length, judged_within, out_of_words_ending, too_large_ending, memory_ending, measure_ending}
-use Rattle.tda_tool.specs.Refusal.{plain_text}
-use Rattle.tda_tool.specs.declared.refusal.Plain.{Plain}
-use Rattle.tda_tool.specs.declared.refusal.Plain.TheVariants.{BadLength}
-use Rattle.tda_tool.specs.declared.words.Number.TheVariants.{Place, Budget}
-use Rattle.tda_tool.specs.declared.words.Source.{Source}
-use Rattle.tda_tool.specs.declared.words.Source.TheVariants as source
+use Rattle.tda_refusal.specs.Refusal.{plain_text}
+use Rattle.tda_refusal.specs.declared.text.Plain.{Plain}
+use Rattle.tda_refusal.specs.declared.text.Plain.TheVariants.{BadLength}
+use Rattle.tda_command.specs.declared.words.Number.TheVariants.{Place, Budget}
+use Rattle.tda_command.specs.declared.words.Source.{Source}
+use Rattle.tda_command.specs.declared.words.Source.TheVariants as source
 
 -- persons who live in the blocks of a spine, and the words of the noise
 pub record Survey : Type 0 where

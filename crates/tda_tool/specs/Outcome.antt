@@ -1,20 +1,25 @@
 -- What a run of the program asked for, and what it leaves in the outbox.
-use Rattle.std.specs.Prelude.{◌≡◌, ◌≢◌, ◌<◌, ◌≤◌, ◌⊎◌, ◌+◌, ◌==◌, ℕ, ℤ, Bool, true, if◌then◌else◌, List, [], ◌∷◌, ◌++◌, length, take, map, slice_index_or, Option, Some, IfSome, option_map, Ok, Err}
+use Rattle.std.specs.Prelude.{◌≡◌, ◌≢◌, ◌≤◌, ◌⊎◌, ◌+◌, ◌==◌, ℕ, ℤ, Bool, true, if◌then◌else◌, List, [], ◌∷◌, ◌++◌, length, take, map, slice_index_or, Option, Some, IfSome, option_map, Ok, Err}
 use Rattle.std.specs.List.{list_any, zip}
 use Rattle.tda_io.specs.Outside.{Shelf, Tray, Written}
 use Rattle.tda_model.specs.Tables.{Tables}
 use Rattle.tda_model.specs.TablesText.{tables_text}
+use Rattle.tda_frac.specs.Fraction.{IsAtMost}
+use Rattle.tda_schema.specs.Shares.{frac_of, spent_of}
 use Rattle.tda_invar.specs.Totals.{totals_text}
 use Rattle.tda_ledger.specs.LedgerText.{ledger_text}
 use Rattle.tda_places.specs.Measurements.{measurements_text}
 use Rattle.tda_measure.specs.Noise.{variances_of, NoiseStops}
 use Rattle.tda_measure.specs.declared.stop.MeasureStop.{MeasureStop}
-use Rattle.tda_tool.specs.Attained.{Inputs, IsAttained}
+use Rattle.tda_model.specs.Release.{Inputs}
+use Rattle.tda_prices.specs.Items.{Pricing}
+use Rattle.tda_tool.specs.Fitting.{IsCertifiedRelease, pricing_text, fitted_ending}
 use Rattle.tda_tool.specs.Measuring.{Survey, state_counts, stop_ending, measured_ending, MeasuresSurvey}
-use Rattle.tda_tool.specs.Words.{command_of, reads_of, writes_of, read_names, dash}
-use Rattle.tda_tool.specs.declared.words.Command.TheVariants.{Measure}
-use Rattle.tda_tool.specs.Refusal.{IsFaultText}
-use Rattle.tda_tool.specs.Ending.{Ending, fit_ending, read_ending, refused_ending}
+use Rattle.tda_command.specs.Words.{command_of, reads_of, writes_of, dash}
+use Rattle.tda_command.specs.declared.words.Command.TheVariants.{Measure}
+use Rattle.tda_tool.specs.Files.{name_of, place_of_file, IsRead, IsFaultOf}
+use Rattle.tda_tool.specs.declared.reading.File.{File}
+use Rattle.tda_tool.specs.Ending.{Ending, read_ending, refused_ending}
 use Rattle.tda_tool.specs.Due.{inputs_from, survey_from, given_by, failing_at, task_by, due_task, IsDue, IsDueStatus}
 
 -- a file with all its bytes, ended
@@ -87,13 +92,13 @@ ReportsDue words holds old new = (e : Ending) × IsDue words holds e × LeavesRe
 -- One of the command's files isn't accepted: the files before it were, the names asked for are those up to it,
 -- and nothing but the report of it and of its fault was begun.
 pub record FileRefused (words : List (List ℕ)) (shelf shelf_new : Option Shelf) (old new : Option Tray) : Type 0 where
-  pub file : ℕ
-  pub within : file < length (reads_of words)
-  pub asked : shelf_new ≡ option_map (asks_all (take (file + 1) (reads_of words))) shelf
+  pub file : File
+  pub reads : IsRead words file
+  pub asked : shelf_new ≡ option_map (asks_all (take (place_of_file file + 1) (reads_of words))) shelf
   pub fault : List ℕ
-  pub of_fault : IsFaultText fault
-  pub refused : IfSome shelf (λ s. due_task words s.holds ≡ Err (refused_ending (slice_index_or (read_names words) file []) fault))
-  pub written : LeavesReport (refused_ending (slice_index_or (read_names words) file []) fault).report old new
+  pub of_file : IsFaultOf file fault
+  pub refused : IfSome shelf (λ s. due_task words s.holds ≡ Err (refused_ending (name_of file) fault))
+  pub written : LeavesReport (refused_ending (name_of file) fault).report old new
 
 -- Outputs are begun only where status 0 is due, and no other one, and no read failed.
 abbrev pub BeginsWhenDue : List (List ℕ) → Option Shelf → ℕ → ℕ → Option Tray → Option Tray → Type 0
@@ -103,21 +108,24 @@ BeginsWhenDue words shelf before now old new =
 -- The read of one of the command's files failed: the files before it were accepted, the names asked for
 -- are those up to it, and nothing but the report of it was begun.
 pub record ReadFailed (words : List (List ℕ)) (shelf shelf_new : Option Shelf) (old new : Option Tray) : Type 0 where
-  pub file : ℕ
-  pub within : file < length (reads_of words)
-  pub asked : shelf_new ≡ option_map (asks_all (take (file + 1) (reads_of words))) shelf
-  pub accepted : IfSome shelf (λ s. task_by words (failing_at file (given_by words s.holds)) ≡ Err (read_ending (slice_index_or (read_names words) file [])))
-  pub written : LeavesReport (read_ending (slice_index_or (read_names words) file [])).report old new
+  pub file : File
+  pub reads : IsRead words file
+  pub asked : shelf_new ≡ option_map (asks_all (take (place_of_file file + 1) (reads_of words))) shelf
+  pub accepted : IfSome shelf (λ s. task_by words (failing_at (place_of_file file) (given_by words s.holds)) ≡ Err (read_ending (name_of file)))
+  pub written : LeavesReport (read_ending (name_of file)).report old new
 
--- `fit` wrote the text of tables that are attained over the files that the inbox holds, and its report, and nothing else.
+-- `fit` wrote tables that are a release over the files that the inbox holds, prices that certify them, and its report with their
+-- deviation, and nothing else.
 pub record FitWrote (words : List (List ℕ)) (holds : List ℕ → Option (List ℕ)) (old new : Option Tray) : Type 0 where
   pub inputs : Inputs
   pub accepted : inputs_from (given_by words holds) ≡ Ok inputs
   pub tables : Tables
-  pub attained : IsAttained inputs tables
+  pub price : Pricing
+  pub certified : IsCertifiedRelease inputs tables price
   pub written : Leaves
       (whole (slice_index_or (writes_of words) 0 []) (tables_text inputs.schema inputs.spine tables)
-      ∷ whole dash (fit_ending inputs.spine).report ∷ []) old new
+      ∷ whole (slice_index_or (writes_of words) 1 []) (pricing_text inputs price)
+      ∷ whole dash (fitted_ending inputs tables).report ∷ []) old new
 
 -- The noise of `measure` stops, so that this is the status: all files were asked for and accepted, and nothing but the report of the place was begun.
 pub record NoiseStopped (words : List (List ℕ)) (status : ℕ) (shelf shelf_new : Option Shelf) (old new : Option Tray) : Type 0 where
@@ -131,13 +139,15 @@ pub record NoiseStopped (words : List (List ℕ)) (status : ℕ) (shelf shelf_ne
   pub ends : (stop_ending survey.schema survey.spine why).status ≡ status
   pub written : LeavesReport (stop_ending survey.schema survey.spine why).report old new
 
--- `measure` wrote the measurements, the totals of the states and the ledger of what the inbox holds, and its report, and nothing else.
+-- `measure` wrote the measurements, the totals of the states and the ledger of what the inbox holds, whose sum is at most the total,
+-- and its report, and nothing else.
 pub record MeasureWrote (words : List (List ℕ)) (holds : List ℕ → Option (List ℕ)) (old new : Option Tray) : Type 0 where
   pub survey : Survey
   pub accepted : survey_from words (given_by words holds) ≡ Ok survey
   pub measurements : List ℤ
   pub taken : ℕ
   pub measured : MeasuresSurvey survey measurements taken
+  pub within : IsAtMost (frac_of (spent_of survey.schema)) (frac_of survey.schema.total)
   pub written : Leaves
       (whole (slice_index_or (writes_of words) 0 []) (measurements_text survey.schema survey.spine measurements)
       ∷ whole (slice_index_or (writes_of words) 1 []) (totals_text survey.spine (state_counts survey.spine survey.records))

@@ -1,5 +1,5 @@
 -- What reading the files of a command gives, asks for and counts.
-use Rattle.std.specs.Prelude.{◌≡◌, ◌≢◌, ◌⊎◌, ◌<◌, ◌≤◌, ℕ, ◌+◌, ◌%◌, ◌^◌, codes, List, [], length, take, slice_get, slice_index_or, sum, count_by, Option, Some, IfSome, option_map, Result, Ok, Err}
+use Rattle.std.specs.Prelude.{◌≡◌, ◌≢◌, ◌⊎◌, ◌<◌, ◌≤◌, ℕ, ℤ, ◌+◌, ◌%◌, ◌^◌, List, [], length, take, slice_index_or, sum, count_by, Option, Some, IfSome, option_map, Result, Ok, Err}
 use Rattle.std.specs.Global.{Vec}
 use Rattle.rand_chacha.specs.ChaCha.{key_of}
 use Rattle.tda_io.specs.Outside.{Shelf, asks}
@@ -8,7 +8,10 @@ use Rattle.tda_model.specs.Spine.{Spine, IsUnit}
 use Rattle.tda_model.specs.Tables.{persons_in}
 use Rattle.tda_model.specs.Bounds.{persons_limit}
 use Rattle.tda_invar.specs.KindTable.{NumberTable}
-use Rattle.tda_invar.specs.Known.{JoinedLists, known, join_due}
+use Rattle.tda_invar.specs.Known.{JoinedLists, IsJoined, known, known_of, join_due}
+use Rattle.tda_spine.specs.Judged.{IsWithinLimits}
+use Rattle.tda_places.specs.Measurements.{AreMeasurementsOf}
+use Rattle.tda_model.specs.Release as release
 use Rattle.tda_records.specs.Records.{AreRecordsOf}
 use Rattle.tda_records.specs.declared.records.Record.{Record}
 use Rattle.tda_out.specs.Counts.{Counts, count_at, counts_of, AreCountsOf}
@@ -16,51 +19,25 @@ use Rattle.tda_hist.specs.TrueTable.{lives_in, true_count, state_persons}
 use Rattle.tda_words.specs.Words.{words_of, stream_words}
 use Rattle.tda_measure.specs.Measured.{HaveFewPersons}
 use Rattle.tda_tool.specs.Measuring.{Survey}
-use Rattle.tda_tool.specs.Words.{reads_of, read_names}
-use Rattle.tda_tool.specs.Ending.{Ending, file_limit, seed_length, or_refused, judged_within, read_ending, refused_ending}
-use Rattle.tda_tool.specs.Due.{Given, given_by, failing_at, totals_from, records_from, survey_from}
+use Rattle.tda_tool.specs.Fitting.{inputs_by}
+use Rattle.tda_command.specs.Words.{reads_of}
+use Rattle.tda_tool.specs.Ending.{Ending, file_limit, or_refused, judged_within, read_ending, refused_ending}
+use Rattle.tda_tool.specs.Due.{Given, given_by, failing_at, totals_from, records_from, inputs_from, survey_from}
 use Rattle.tda_tool.specs.Outcome.{AsksPrefix, asks_all}
-use Rattle.tda_tool.specs.Refusal.{IsFaultText, plain_text, join_text}
+use Rattle.tda_refusal.specs.Refusal.{plain_text, join_text}
+use Rattle.tda_tool.specs.Files.{name_of, place_of_file, limit_of, IsRead, IsFaultOf}
 use Rattle.tda_tool.specs.declared.base.Base.{Base}
-use Rattle.tda_tool.specs.declared.words.Source.{Source}
-use Rattle.tda_tool.specs.declared.words.Source.TheVariants as source
+use Rattle.tda_command.specs.declared.words.Source.{Source}
+use Rattle.tda_command.specs.declared.words.Source.TheVariants as source
 use Rattle.tda_tool.specs.declared.reading.File.{File}
 use Rattle.tda_tool.specs.declared.reading.File.TheVariants as file
-use Rattle.tda_tool.specs.declared.refusal.Plain.TheVariants.{TooLong}
+use Rattle.tda_refusal.specs.declared.text.Plain.TheVariants.{TooLong}
 use Rattle.tda_tool.specs.declared.reading.Stop.{Stop}
 use Rattle.tda_tool.specs.declared.reading.Stop.TheVariants as stop
+use Rattle.tda_tool.specs.declared.inputs.Inputs.{Inputs}
 use Rattle.tda_tool.specs.declared.noise.Noise.{Noise}
 use Rattle.tda_tool.specs.declared.noise.Noise.TheVariants as noise
 use Rattle.tda_tool.specs.declared.counted.Counted.{Counted}
-
--- the name of a file in the command
-abbrev pub name_of : File → List ℕ
-name_of file.Schema = codes "schema"
-name_of file.Spine = codes "spine"
-name_of file.Facilities = codes "facilities"
-name_of file.Totals = codes "totals"
-name_of file.Records = codes "records"
-name_of file.Words = codes "words"
-name_of file.Seed = codes "seed"
-
--- its place among the files that are read
-abbrev pub place_of_file : File → ℕ
-place_of_file file.Schema = 0
-place_of_file file.Spine = 1
-place_of_file file.Facilities = 2
-place_of_file file.Totals = 3
-place_of_file file.Records = 3
-place_of_file file.Words = 4
-place_of_file file.Seed = 4
-
--- how many bytes it may have
-abbrev pub limit_of : File → ℕ
-limit_of file.Seed = seed_length
-limit_of _ = file_limit
-
--- the words' command reads the file, at its place
-abbrev pub IsRead : List (List ℕ) → File → Type 0
-IsRead words f = slice_get (read_names words) (place_of_file f) ≡ Some (name_of f)
 
 -- where the command finds it
 abbrev pub path_of : List (List ℕ) → File → List ℕ
@@ -77,7 +54,7 @@ IsRefused f text stop.NoMemory = Unit {0}
 
 -- a reader's fault stops the reading: the file is refused with the text of the fault, or memory ran out
 abbrev pub IsStop : {F : Type 0} → F → File → (F → List ℕ) → F → Stop → Type 0
-IsStop no_memory f text e (stop.Refused r) = (e ≢ no_memory) × (r.file ≡ f) × (r.fault.items ≡ text e) × IsFaultText r.fault.items
+IsStop no_memory f text e (stop.Refused r) = (e ≢ no_memory) × (r.file ≡ f) × (r.fault.items ≡ text e) × IsFaultOf f r.fault.items
 IsStop no_memory f text e (stop.Read g) = ⊥
 IsStop no_memory f text e stop.NoMemory = Unit {0}
 
@@ -91,7 +68,7 @@ GivesBytes words f shelf (Err stop.NoMemory) = Unit {0}
 -- what the file is judged to be, where it is accepted
 abbrev pub GivesBy : {A : Type 0} → List (List ℕ) → File → (Option (List ℕ) → Result A Ending) → Option Shelf → Result A Stop → Type 0
 GivesBy words f from shelf (Ok x) = IfSome shelf (λ s. from (s.holds (path_of words f)) ≡ Ok x)
-GivesBy words f from shelf (Err (stop.Refused r)) = (r.file ≡ f) × IsFaultText r.fault.items
+GivesBy words f from shelf (Err (stop.Refused r)) = (r.file ≡ f) × IsFaultOf f r.fault.items
     × IfSome shelf (λ s. from (s.holds (path_of words f)) ≡ Err (refused_ending (name_of f) r.fault.items))
 GivesBy words f from shelf (Err (stop.Read g)) = g ≡ f
 GivesBy words f from shelf (Err stop.NoMemory) = Unit {0}
@@ -103,7 +80,7 @@ GivesFile words f text read shelf r = GivesBy words f (judged_within (limit_of f
 -- a file is judged once more, beside others
 abbrev pub Judges : {X F : Type 0} → File → (F → List ℕ) → Result (Unit {0}) F → Result X Stop → Type 0
 Judges f text due (Ok x) = or_refused (name_of f) text due ≡ Ok tt
-Judges f text due (Err (stop.Refused r)) = (r.file ≡ f) × IsFaultText r.fault.items × (or_refused (name_of f) text due ≡ Err (refused_ending (name_of f) r.fault.items))
+Judges f text due (Err (stop.Refused r)) = (r.file ≡ f) × IsFaultOf f r.fault.items × (or_refused (name_of f) text due ≡ Err (refused_ending (name_of f) r.fault.items))
 Judges f text due (Err (stop.Read g)) = ⊥
 Judges f text due (Err stop.NoMemory) = Unit {0}
 
@@ -138,7 +115,7 @@ Agree words s n given = (m : ℕ) → m < n → given m ≡ given_by words s.hol
 -- what the first n files come to, or the first file that stops
 abbrev pub Gathers : {X : Type 0} → List (List ℕ) → ℕ → (Given → Result X Ending) → Option Shelf → Result X Stop → Type 0
 Gathers words n from shelf (Ok x) = IfSome shelf (λ s. (given : Given) → Agree words s n given → from given ≡ Ok x)
-Gathers words n from shelf (Err (stop.Refused r)) = IsRead words r.file × IsFaultText r.fault.items
+Gathers words n from shelf (Err (stop.Refused r)) = IsRead words r.file × IsFaultOf r.file r.fault.items
     × IfSome shelf (λ s. from (given_by words s.holds) ≡ Err (refused_ending (name_of r.file) r.fault.items))
 Gathers words n from shelf (Err (stop.Read f)) = IsRead words f
     × IfSome shelf (λ s. from (failing_at (place_of_file f) (given_by words s.holds)) ≡ Err (read_ending (name_of f)))
@@ -150,6 +127,31 @@ AsksFiles words n old new (Ok x) = new ≡ option_map (asks_all (take n (reads_o
 AsksFiles words n old new (Err (stop.Refused r)) = new ≡ option_map (asks_all (take (place_of_file r.file + 1) (reads_of words))) old
 AsksFiles words n old new (Err (stop.Read f)) = new ≡ option_map (asks_all (take (place_of_file f + 1) (reads_of words))) old
 AsksFiles words n old new (Err stop.NoMemory) = AsksPrefix (reads_of words) old new
+
+-- ---- what tables are made from
+
+-- the words' command reads the files of the inputs
+pub record ReadsInputs (words : List (List ℕ)) : Type 0 where
+  pub schema : IsRead words file.Schema
+  pub spine : IsRead words file.Spine
+  pub facilities : IsRead words file.Facilities
+  pub totals : IsRead words file.Totals
+  pub measurements : IsRead words file.Measurements
+
+-- as they are published
+abbrev pub inputs_in : Inputs → release.Inputs
+inputs_in i = inputs_by i.schema i.spine (known_of i.spine i.invariants) i.measurements
+
+-- they go together
+pub record AreInputs (s : Schema) (sp : Spine) (inv : JoinedLists) (m : List ℤ) : Type 0 where
+  pub limits : IsWithinLimits s sp
+  pub joined : IsJoined s sp inv
+  pub measured : AreMeasurementsOf s sp m
+
+-- what the files of the inputs come to
+abbrev pub GathersInputs : List (List ℕ) → Option Shelf → Result Inputs Stop → Type 0
+GathersInputs words shelf (Ok i) = AreInputs i.schema i.spine i.invariants i.measurements × Gathers words 5 inputs_from shelf (Ok (inputs_in i))
+GathersInputs words shelf (Err e) = Gathers words 5 inputs_from shelf (Err e)
 
 -- ---- what is measured
 

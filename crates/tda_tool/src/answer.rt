@@ -58,7 +58,7 @@ pub(crate) struct Answer {
 impl Answer {
     ghost use Rattle.std.specs.Prelude.{◌≡◌, [], IfOk};
     ghost use Rattle.tda_tool.specs.Ending.{words_ending, read_ending, refused_ending};
-    ghost use Rattle.tda_tool.specs.Reading.{name_of};
+    ghost use Rattle.tda_tool.specs.Files.{name_of};
     ghost use Rattle.tda_tool.specs.Answer.{ReportsAlone};
 
     /// A report alone.

@@ -5,15 +5,16 @@ ghost use Rattle.tda_spine.specs.Judged as spine;
 ghost use Rattle.tda_spine.specs.Judged.{IsWithinLimits};
 ghost use Rattle.tda_invar.specs.Facilities as facilities;
 ghost use Rattle.tda_invar.specs.Facilities.{IsTableOf};
-ghost use Rattle.tda_tool.specs.Refusal.{schema_text, spine_text, facilities_text};
+ghost use Rattle.tda_refusal.specs.Refusal.{schema_text, spine_text, facilities_text};
 ghost use Rattle.tda_tool.specs.Due.{base_from};
-ghost use Rattle.tda_tool.specs.Reading.{IsRead, IsStop, GivesFile, AsksFile, CountsRead, Gathers, AsksFiles};
+ghost use Rattle.tda_tool.specs.Files.{IsRead};
+ghost use Rattle.tda_tool.specs.Reading.{IsStop, GivesFile, AsksFile, CountsRead, Gathers, AsksFiles};
 
 use crate::reading::{File, Stop, read_bytes, refused};
-use crate::refusal::Plain;
 use std::alloc::Global;
 use tda_invar::{FacFault, Facilities, read_facilities};
 use tda_io::Inbox;
+use tda_refusal::Plain;
 use tda_schema::{Schema, SchemaFault, read_schema};
 use tda_spine::{Spine, SpineFault, read_spine};
 

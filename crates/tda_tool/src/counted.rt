@@ -5,21 +5,22 @@ ghost use Rattle.tda_records.specs.Records as records;
 ghost use Rattle.tda_records.specs.Records.{AreRecordsOf};
 ghost use Rattle.tda_out.specs.Counts.{count_at, AreCountsOf};
 ghost use Rattle.tda_hist.specs.Agreement.{agree_due};
-ghost use Rattle.tda_tool.specs.Words.{command_of};
-ghost use Rattle.tda_tool.specs.Refusal.{records_text, hist_text, NamesKnown};
-ghost use Rattle.tda_tool.specs.Reading.{IsRead, IsStop, GivesFile, Judges, AsksFile, CountsRead, AsksFiles, AreTrueCounts, GivesTables, Surveys};
+ghost use Rattle.tda_command.specs.Words.{command_of};
+ghost use Rattle.tda_refusal.specs.Refusal.{records_text, hist_text, NamesKnown};
+ghost use Rattle.tda_tool.specs.Files.{IsRead};
+ghost use Rattle.tda_tool.specs.Reading.{IsStop, GivesFile, Judges, AsksFile, CountsRead, AsksFiles, AreTrueCounts, GivesTables, Surveys};
 
 use crate::base::{Base, read_base};
 use crate::noise::{Noise, read_noise};
 use crate::reading::{File, Stop, read_bytes, refused, refused_beside};
-use crate::refusal::{Named, Plain};
-use crate::words::Command;
 use std::alloc::Global;
+use tda_command::Command;
 use tda_hist::{agree, count};
 use tda_invar::Facilities;
 use tda_io::Inbox;
 use tda_out::Tables;
 use tda_records::{RecFault, Records, read_records};
+use tda_refusal::{Named, Plain};
 use tda_schema::Schema;
 use tda_spine::Spine;
 

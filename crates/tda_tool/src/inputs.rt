@@ -1,80 +1,32 @@
 // What `fit` makes tables from.
-ghost use Rattle.std.specs.Prelude.{◌≡◌, ◌-◌, ◌^◌, ◌<◌, IfOk, map, string_bytes, Some};
-ghost use Rattle.tda_model.specs.Bounds.{low};
-ghost use Rattle.tda_model.specs.Groups.{kind_count};
-ghost use Rattle.tda_model.specs.Spine.{IsUnit};
+ghost use Rattle.std.specs.Prelude.{◌≡◌, ◌-◌, ◌^◌, ◌<◌, IfOk, map, length, string_bytes};
 ghost use Rattle.tda_invar.specs.Facilities.{IsTableOf};
 ghost use Rattle.tda_invar.specs.Totals as totals;
 ghost use Rattle.tda_invar.specs.Totals.{AreTotalsOf};
-ghost use Rattle.tda_invar.specs.Known.{known, join_due, unit_total, IsJoined};
-ghost use Rattle.tda_tool.specs.Attained.{known_of, AreSound};
-ghost use Rattle.tda_tool.specs.Due.{inputs_from};
-ghost use Rattle.tda_tool.specs.Words.{command_of};
-ghost use Rattle.tda_tool.specs.Refusal.{totals_text, join_text, NamesKnown};
-ghost use Rattle.tda_tool.specs.Reading.{IsRead, IsStop, GivesFile, GivesJoined, GivesInvariants, AsksFile, CountsRead, Gathers, AsksFiles};
+ghost use Rattle.tda_invar.specs.Known.{known, join_due, IsJoined};
+ghost use Rattle.tda_places.specs.Measurements.{AreMeasurementsOf};
+ghost use Rattle.tda_refusal.specs.Refusal.{totals_text, join_text, measurements_text, NamesKnown};
+ghost use Rattle.tda_tool.specs.Files.{IsRead};
+ghost use Rattle.tda_tool.specs.Due.{measurements_from};
+ghost use Rattle.tda_tool.specs.Reading.{IsStop, GivesBy, GivesFile, GivesJoined, GivesInvariants, AsksFile, CountsRead, AsksFiles, ReadsInputs, GathersInputs};
 
 use crate::base::{Base, read_base};
-use crate::reading::{File, Stop, read_bytes, refused_beside};
-use crate::refusal::Named;
-use crate::words::Command;
+use crate::reading::{File, Stop, read_bytes, refused, refused_beside};
 use std::alloc::Global;
-use std::marker::Model;
 use tda_invar::{Facilities, Invariants, JoinFault, TotFault, Totals, join, read_totals};
 use tda_io::Inbox;
+use tda_places::{MeaFault, Measurements, read_measurements};
+use tda_refusal::{Named, Plain};
 use tda_schema::Schema;
 use tda_spine::Spine;
 
-/// A schema, a spine, and what is published exactly: facilities, and totals that suffice for them.
+/// A schema, a spine, what is published exactly, and measurements.
 #[derive(Drop)]
 pub(crate) struct Inputs {
-    schema: Schema,
-    spine: Spine,
-    invariants: Invariants,
-}
-
-impl Model for Inputs {
-    ghost use Rattle.tda_invar.specs.Known.{IsJoined};
-    ghost use Rattle.tda_tool.specs.Attained as spec;
-
-    ghost Value = { spec.Inputs };
-
-    ghost view = { λ i. record { schema = i.schema; spine = i.spine; facilities = i.invariants.facilities; totals = i.invariants.totals } };
-
-    ghost invariant = { λ i. IsJoined i.schema i.spine i.invariants };
-}
-
-impl Inputs {
-    pub(crate) fn schema(&self) -> &Schema
-        ensures { result.now ≡ self.now.schema }
-    {
-        &self.schema
-    }
-
-    pub(crate) fn spine(&self) -> &Spine
-        ensures value { result.now ≡ self.now.spine }
-        ensures sound { AreSound self.now }
-    {
-        // The units are a tree.
-        let _ = self.spine.units();
-        &self.spine
-    }
-
-    /// How many persons of a kind a unit has at least.
-    pub(crate) fn low(&self, unit: u32, kind: u16) -> u64
-        requires unit { IsUnit self.now.spine unit }
-        requires kind { kind < kind_count self.now.schema }
-        ensures { result ≡ low self.now.spine (known_of self.now) unit kind }
-    {
-        self.invariants.low(unit, kind)
-    }
-
-    /// How many persons a state has, and None for a unit that is no state.
-    pub(crate) fn total(&self, unit: u32) -> Option<u64>
-        requires { IsUnit self.now.spine unit }
-        ensures { result ≡ unit_total self.now.spine (known_of self.now) unit }
-    {
-        self.invariants.total(unit)
-    }
+    pub(crate) schema: Schema,
+    pub(crate) spine: Spine,
+    pub(crate) invariants: Invariants,
+    pub(crate) measurements: Measurements,
 }
 
 // Why totals that aren't read stop the reading.
@@ -161,16 +113,49 @@ fn read_invariants<I: Inbox>(
     joined(alloc, schema, spine, facilities, totals)
 }
 
-/// Reads and judges the schema, the spine, the facilities and the totals, in this order.
+// Why measurements that aren't read stop the reading.
+fn measurements_stop(alloc: Global, fault: MeaFault) -> Stop
+    ensures { IsStop MeaFault.NoMemory File.Measurements measurements_text fault result }
+{
+    match fault {
+        MeaFault::NoMemory => Stop::NoMemory,
+        fault => refused(alloc, File::Measurements, Plain::Measurements(fault)),
+    }
+}
+
+// Reads and judges the measurements.
+fn read_measurements_file<I: Inbox>(
+    alloc: Global,
+    words: &[String],
+    schema: &Schema,
+    spine: &Spine,
+    inbox: &mut I,
+) -> Result<Measurements, Stop>
+    requires reads { IsRead (map string_bytes words.now) File.Measurements }
+    requires belong { spine.now.depth ≡ length schema.now.levels }
+    requires room { I.faults inbox.old < 2 ^ 64 - 1 }
+    ensures file { GivesBy (map string_bytes words.now) File.Measurements (measurements_from schema.now spine.now) (I.told inbox.old) result }
+    ensures measured { IfOk result (AreMeasurementsOf schema.now spine.now) }
+    ensures asked { AsksFile (map string_bytes words.now) File.Measurements (I.told inbox.old) (I.told inbox.new) result }
+    ensures cause { CountsRead (I.faults inbox.old) (I.faults inbox.new) result }
+{
+    let bytes = read_bytes(alloc, words, File::Measurements, inbox)?;
+    match read_measurements(alloc, schema, spine, &bytes) {
+        Ok(measurements) => Ok(measurements),
+        Err(fault) => Err(measurements_stop(alloc, fault)),
+    }
+}
+
+/// Reads and judges the schema, the spine, the facilities, the totals and the measurements, in this order.
 pub(crate) fn read_inputs<I: Inbox>(
     alloc: Global,
     words: &[String],
     inbox: &mut I,
 ) -> Result<Inputs, Stop>
-    requires command { command_of (map string_bytes words.now) ≡ Some Command.Fit }
+    requires reads { ReadsInputs (map string_bytes words.now) }
     requires room { I.faults inbox.old < 2 ^ 64 - 1 }
-    ensures inputs { Gathers (map string_bytes words.now) 4 inputs_from (I.told inbox.old) result }
-    ensures asked { AsksFiles (map string_bytes words.now) 4 (I.told inbox.old) (I.told inbox.new) result }
+    ensures inputs { GathersInputs (map string_bytes words.now) (I.told inbox.old) result }
+    ensures asked { AsksFiles (map string_bytes words.now) 5 (I.told inbox.old) (I.told inbox.new) result }
     ensures cause { CountsRead (I.faults inbox.old) (I.faults inbox.new) result }
 {
     let Base {
@@ -179,9 +164,11 @@ pub(crate) fn read_inputs<I: Inbox>(
         facilities,
     } = read_base(alloc, words, inbox)?;
     let invariants = read_invariants(alloc, words, &schema, &spine, facilities, inbox)?;
+    let measurements = read_measurements_file(alloc, words, &schema, &spine, inbox)?;
     Ok(Inputs {
         schema,
         spine,
         invariants,
+        measurements,
     })
 }

@@ -5,25 +5,15 @@ mod answer;
 mod base;
 mod counted;
 mod fit;
-mod homes;
 mod inputs;
 mod measured;
 mod noise;
 mod output;
-mod plain;
 mod prepare;
 mod publish;
 mod reading;
 mod refusal;
-mod tables;
+mod release;
 mod top;
-mod words;
 
 pub use top::tool;
-
-#[cfg(test)]
-mod measure_tests;
-#[cfg(test)]
-mod samples;
-#[cfg(test)]
-mod tests;

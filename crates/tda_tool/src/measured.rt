@@ -1,6 +1,6 @@
 // What `measure` answers.
 ghost use Rattle.std.specs.Prelude.{◌≡◌, ◌<◌, ◌≤◌, ◌++◌, codes, length, string_bytes, sum, IfOk, OnOk};
-ghost use Rattle.tda_frac.specs.Fraction.{text_of};
+ghost use Rattle.tda_frac.specs.Fraction.{IsAtMost, text_of};
 ghost use Rattle.tda_model.specs.Bounds.{persons_limit};
 ghost use Rattle.tda_schema.specs.Shares.{frac_of, spent_of};
 ghost use Rattle.tda_invar.specs.Totals.{totals_text};
@@ -105,9 +105,10 @@ fn totals_output(alloc: Global, counted: &Counted) -> Result<Output, NoMemory>
     })
 }
 
-// The file of the ledger.
+// The file of the ledger, whose sum is at most the total.
 fn ledger_output(alloc: Global, counted: &Counted) -> Result<Output, NoMemory>
-    ensures { IfOk result (IsOutput (codes "ledger") (ledger_text counted.now.schema)) }
+    ensures output { IfOk result (IsOutput (codes "ledger") (ledger_text counted.now.schema)) }
+    ensures within { IfOk result (λ o. IsAtMost (frac_of (spent_of counted.now.schema)) (frac_of counted.now.schema.total)) }
 {
     let ledger = make_ledger(alloc, &counted.schema)?;
     let mut text = Vec::new(alloc);

@@ -1,14 +1,15 @@
 // The words of the noise.
 ghost use Rattle.std.specs.Prelude.{◌-◌, ◌^◌, ◌<◌, map, string_bytes};
-ghost use Rattle.tda_tool.specs.Words.{source_of};
+ghost use Rattle.tda_command.specs.Words.{source_of};
 ghost use Rattle.tda_tool.specs.Measuring.{noise_from};
-ghost use Rattle.tda_tool.specs.Reading.{IsRead, AsksFile, CountsRead, GivesNoise, source_path};
+ghost use Rattle.tda_tool.specs.Files.{IsRead};
+ghost use Rattle.tda_tool.specs.Reading.{AsksFile, CountsRead, GivesNoise, source_path};
 
 use crate::reading::{File, SEED, Stop, read_bytes, refused};
-use crate::refusal::Plain;
-use crate::words::{Number, Source, number_of, source_of};
 use std::alloc::Global;
+use tda_command::{Number, Source, number_of, source_of};
 use tda_io::Inbox;
+use tda_refusal::Plain;
 
 /// Where words are taken from, accepted.
 #[derive(Debug, Drop)]

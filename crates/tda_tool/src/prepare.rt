@@ -1,6 +1,6 @@
 // All that comes before the outputs: the words are judged, the files are read, what is written is made.
 ghost use Rattle.std.specs.Prelude.{◌≡◌, ◌-◌, ◌^◌, ◌<◌, IfOk, map, string_bytes, Some};
-ghost use Rattle.tda_tool.specs.Words.{command_of};
+ghost use Rattle.tda_command.specs.Words.{command_of};
 ghost use Rattle.tda_tool.specs.Answer.{Suits, AsksPrepared, CountsPrepared, AnswersStop};
 
 use crate::answer::Answer;
@@ -9,8 +9,8 @@ use crate::fit::fitted;
 use crate::inputs::read_inputs;
 use crate::measured::measured;
 use crate::reading::Stop;
-use crate::words::{Command, judge};
 use std::alloc::Global;
+use tda_command::{Command, judge};
 use tda_io::{Inbox, NoMemory};
 
 // What stops the reading is the answer.
@@ -33,7 +33,13 @@ fn fit<I: Inbox>(alloc: Global, words: &[String], inbox: &mut I) -> Result<Answe
     ensures cause { CountsPrepared (I.faults inbox.old) (I.faults inbox.new) result }
 {
     match read_inputs(alloc, words, inbox) {
-        Ok(inputs) => fitted(alloc, &inputs),
+        Ok(inputs) => fitted(
+            alloc,
+            &inputs.schema,
+            &inputs.spine,
+            &inputs.invariants,
+            &inputs.measurements,
+        ),
         Err(stop) => stopped(alloc, &stop),
     }
 }

@@ -1,14 +1,14 @@
 // The outputs and the report.
 ghost use Rattle.std.specs.Prelude.{◌≡◌, ◌-◌, ◌^◌, ◌<◌, [], map, string_bytes, IfSome, OnOk};
 ghost use Rattle.tda_io.specs.Outside.{IsNew, CountsOut};
-ghost use Rattle.tda_tool.specs.Words.{dash};
+ghost use Rattle.tda_command.specs.Words.{dash};
 ghost use Rattle.tda_tool.specs.Outcome.{IsEmpty, Leaves, BeginsPrefix};
 ghost use Rattle.tda_tool.specs.Output.{BeginsFirst, CountsFault};
 ghost use Rattle.tda_tool.specs.Answer.{WritesNames, outputs_of, targets_of, files_of, target_of};
 
 use crate::answer::{Answer, Output};
 use crate::output::write_whole;
-use crate::words::value_named;
+use tda_command::value_named;
 use tda_io::{OutFault, Outbox};
 
 /// Tells that memory ran out, as far as that can be told.

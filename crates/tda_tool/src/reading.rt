@@ -1,17 +1,22 @@
 // The files of a command, and what stops their reading.
 ghost use Rattle.std.specs.Prelude.{◌≡◌, ◌-◌, ◌^◌, ◌<◌, ◌≤◌, IfOk, map, length, string_bytes};
-ghost use Rattle.tda_tool.specs.Refusal.{plain_text, named_text, NamesKnown};
-ghost use Rattle.tda_tool.specs.Reading.{path_of, limit_of, IsRead, IsRefused, GivesBytes, AsksFile, CountsRead};
+ghost use Rattle.tda_refusal.specs.Refusal.{plain_text, named_text, NamesKnown};
+ghost use Rattle.tda_tool.specs.Files.{limit_of, IsRead};
+ghost use Rattle.tda_tool.specs.Reading.{path_of, IsRefused, GivesBytes, AsksFile, CountsRead};
 
-use crate::refusal::{Named, Plain, Refusal, push_named, push_plain};
-use crate::words::value_named;
+use crate::refusal::Refusal;
 use std::alloc::Global;
+use tda_command::value_named;
 use tda_io::{InFault, Inbox};
+use tda_refusal::{Named, Plain, push_named, push_plain};
 use tda_schema::Schema;
 use tda_spine::Spine;
 
 /// The longest file that is read.
 const LIMIT: usize = 1 << 28;
+
+/// The longest file that is read of a kind that the program writes too.
+const WRITTEN_LIMIT: usize = 1 << 30;
 
 /// How many bytes a seed has.
 pub(crate) const SEED: usize = 32;
@@ -24,13 +29,14 @@ pub(crate) enum File {
     Facilities,
     Totals,
     Records,
+    Measurements,
     Words,
     Seed,
 }
 
 impl File {
     ghost use Rattle.std.specs.Prelude.{◌≡◌, ◌≤◌, ◌^◌};
-    ghost use Rattle.tda_tool.specs.Reading.{name_of, limit_of};
+    ghost use Rattle.tda_tool.specs.Files.{name_of, limit_of};
 
     /// Its name in the command.
     pub(crate) fn name(self) -> &'static str
@@ -42,6 +48,7 @@ impl File {
             File::Facilities => "facilities",
             File::Totals => "totals",
             File::Records => "records",
+            File::Measurements => "measurements",
             File::Words => "words",
             File::Seed => "seed",
         }
@@ -50,10 +57,11 @@ impl File {
     // How many bytes it may have.
     fn limit(self) -> usize
         ensures limit { result ≡ limit_of self }
-        ensures small { result ≤ 2 ^ 28 }
+        ensures small { result ≤ 2 ^ 30 }
     {
         match self {
             File::Seed => SEED,
+            File::Measurements => WRITTEN_LIMIT,
             File::Schema
             | File::Spine
             | File::Facilities

@@ -1,7 +1,7 @@
 // The top call.
 ghost use Rattle.std.specs.Prelude.{◌≡◌, ◌≢◌, ◌⊎◌, ◌↔◌, ◌-◌, ◌^◌, ◌<◌, ◌≤◌, map, string_bytes, option_map, IfOk, IfSome, IsTrue, Some, None};
 ghost use Rattle.tda_io.specs.Outside.{CountsOut};
-ghost use Rattle.tda_tool.specs.Words.{command_of, reads_of, writes_of};
+ghost use Rattle.tda_command.specs.Words.{command_of, reads_of, writes_of};
 ghost use Rattle.tda_tool.specs.Ending.{words_ending};
 ghost use Rattle.tda_tool.specs.Due.{IsDueStatus};
 ghost use Rattle.tda_tool.specs.Outcome.{is_status, IsSettled, IsEmpty, Leaves, LeavesReport, LeavesAll, ReportsDue, FitWrote, MeasureWrote, NoiseStopped, FileRefused, ReadFailed, AsksPrefix, asks_all, BeginsPrefix, BeginsWhenDue};
@@ -10,8 +10,8 @@ ghost use Rattle.tda_tool.specs.Answer.{Suits, Asks, files_of, CountsRun, status
 use crate::answer::Answer;
 use crate::prepare::prepare;
 use crate::publish::{publish, tell_memory};
-use crate::words::Command;
 use std::alloc::Global;
+use tda_command::Command;
 use tda_io::{Inbox, NoMemory, OutFault, Outbox};
 
 // Prepares the answer and publishes it.
@@ -77,7 +77,8 @@ pub fn tool<I: Inbox, O: Outbox>(
     ensures settled_report { IsSettled result → result ≢ 0 → IfSome (I.told inbox.old) (λ s.
         ReportsDue (map string_bytes words.now) s.holds (O.told outbox.old) (O.told outbox.new)) }
 
-    // The tables that `fit` writes are attained over what the inbox holds, and nothing else is written but the report.
+    // The tables that `fit` writes are a release over what the inbox holds, as the prices show that it writes, and nothing
+    // else is written but the report.
     ensures fit_wrote { result ≡ 0 → command_of (map string_bytes words.now) ≡ Some Command.Fit → IfSome (I.told inbox.old) (λ s.
         FitWrote (map string_bytes words.now) s.holds (O.told outbox.old) (O.told outbox.new)) }
 

@@ -1,8 +1,8 @@
 use Rattle.std.proofs.Common.{codes, map, string_bytes}
 use Rattle.tda_schema.specs.Read as schema
-use Rattle.tda_tool.specs.Refusal.{schema_text}
+use Rattle.tda_refusal.specs.Refusal.{schema_text}
 use Rattle.tda_tool.specs.declared.reading.File.TheVariants as file
-use Rattle.tda_tool.specs.Reading.{limit_of}
+use Rattle.tda_tool.specs.Files.{limit_of}
 use Rattle.tda_tool.proofs.Judged.{accepted}
 use Rattle.tda_tool.proofs.Stops.{stop_given}
 use Rattle.tda_tool.proofs.base.read_schema_file.Goals as goal

@@ -1,8 +1,8 @@
 use Rattle.std.proofs.Common.{codes, map, string_bytes}
 use Rattle.tda_spine.specs.Judged as spine
-use Rattle.tda_tool.specs.Refusal.{spine_text}
+use Rattle.tda_refusal.specs.Refusal.{spine_text}
 use Rattle.tda_tool.specs.declared.reading.File.TheVariants as file
-use Rattle.tda_tool.specs.Reading.{limit_of}
+use Rattle.tda_tool.specs.Files.{limit_of}
 use Rattle.tda_tool.proofs.Judged.{accepted}
 use Rattle.tda_tool.proofs.Stops.{stop_given}
 use Rattle.tda_tool.proofs.base.read_spine_file.Goals as goal

@@ -1,9 +1,8 @@
 use Rattle.std.proofs.Common.{refl, sym, inr}
 use Rattle.tda_out.specs.Counts.{count_at}
 use Rattle.tda_hist.specs.Agreement.{agree_due}
-use Rattle.tda_tool.specs.Refusal.{hist_text}
+use Rattle.tda_refusal.specs.Refusal.{hist_text}
 use Rattle.tda_tool.specs.declared.reading.File.TheVariants as file
-use Rattle.tda_tool.specs.declared.refusal.Named.TheVariants as named
 use Rattle.tda_tool.proofs.Agreed.{hist_names}
 use Rattle.tda_tool.proofs.Beside.{judged_fault}
 use Rattle.tda_tool.proofs.counted.agreed.Goals as goal
@@ -16,4 +15,4 @@ returns-in-Err c =
     let s = c.args.schema.now in
     let sp = c.args.spine.now in
     judged_fault file.Records (hist_text s sp) (agree_due s sp c.args.facilities.now (count_at c.args.tables.now)) (Unit {0}) c.in-Err.fault _ (sym c.in-Err.ensures.due) c.refused_beside.ensures
-    (inr (s, sp, named.Hist c.in-Err.fault, refl, tt))
+    (inr (inr (s, sp, c.in-Err.fault, refl)))

@@ -1,6 +1,6 @@
 use Rattle.tda_invar.specs.declared.join_fault.JoinFault.TheVariants.{NoMemory}
 use Rattle.tda_invar.specs.Known.{known, join_due, JoinedLists}
-use Rattle.tda_tool.specs.Refusal.{join_text}
+use Rattle.tda_refusal.specs.Refusal.{join_text}
 use Rattle.tda_tool.specs.declared.reading.File.TheVariants as file
 use Rattle.tda_tool.proofs.FaultUnits.{join_names}
 use Rattle.tda_tool.proofs.Beside.{judged_well, judged_stop}

@@ -1,8 +1,8 @@
 use Rattle.std.proofs.Common.{codes, map, string_bytes}
 use Rattle.tda_invar.specs.Totals as totals
-use Rattle.tda_tool.specs.Refusal.{totals_text}
+use Rattle.tda_refusal.specs.Refusal.{totals_text}
 use Rattle.tda_tool.specs.declared.reading.File.TheVariants as file
-use Rattle.tda_tool.specs.Reading.{limit_of}
+use Rattle.tda_tool.specs.Files.{limit_of}
 use Rattle.tda_tool.proofs.Judged.{accepted}
 use Rattle.tda_tool.proofs.Stops.{stop_given}
 use Rattle.tda_tool.proofs.FaultUnits.{totals_name}

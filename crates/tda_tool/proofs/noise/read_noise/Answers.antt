@@ -1,6 +1,6 @@
 use Rattle.std.proofs.Common.{◌≡◌, map, string_bytes}
-use Rattle.tda_tool.specs.Words.{source_of}
-use Rattle.tda_tool.specs.declared.words.Source.TheVariants as source
+use Rattle.tda_command.specs.Words.{source_of}
+use Rattle.tda_command.specs.declared.words.Source.TheVariants as source
 use Rattle.tda_tool.proofs.Noises.{given_from, asked_from}
 use Rattle.tda_tool.proofs.noise.read_noise.Goals as goal
 

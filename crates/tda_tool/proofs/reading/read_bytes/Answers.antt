@@ -1,6 +1,6 @@
 use Rattle.std.proofs.Common.{arith, rules, map, string_bytes, ℕ}
 use Rattle.std.specs.Global.{Vec}
-use Rattle.tda_tool.specs.Reading.{limit_of}
+use Rattle.tda_tool.specs.Files.{limit_of}
 use Rattle.tda_tool.proofs.Judged.{long_file, short_file, gives_none, asked_once, counts_none, failed_told}
 use Rattle.tda_tool.proofs.reading.read_bytes.Goals as goal
 

@@ -1,0 +1,13 @@
+use Rattle.std.proofs.Common.{map}
+use Rattle.tda_model.specs.Cells.{all_cells}
+use Rattle.tda_model.specs.Spine.{unit_numbers}
+use Rattle.tda_model.specs.Tables.{Published}
+use Rattle.tda_out.specs.Counts.{count_at}
+use Rattle.tda_audit.specs.Verdicts.{breaks}
+use Rattle.tda_audit.specs.declared.verdict.Verdict.TheVariants.{Impossible}
+use Rattle.tda_audit.proofs.Walks.{FailsInto}
+use Rattle.tda_audit.proofs.rules.wrong_cell.Given as goal
+
+abbrev pub invariant-loop-unit : goal.invariant-loop-unit
+invariant-loop-unit l =
+    (known : Published) → FailsInto (breaks l.schema l.spine known (count_at l.tables)) (λ u. map (Impossible u) (all_cells l.schema)) (unit_numbers l.spine) l.unit

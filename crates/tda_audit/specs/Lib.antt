@@ -1,0 +1,6 @@
+pub mod Arcs
+pub mod Certified
+pub mod Verdicts
+pub mod Fitted
+pub mod Answers
+pub mod Options

@@ -1,0 +1,12 @@
+pub mod Items
+pub mod Numbered
+pub mod PricesText
+pub mod Priced
+pub mod Parts
+pub mod Places
+pub mod Left
+pub mod Kept
+pub mod Faults
+pub mod TablesRead
+pub mod Ranks
+pub mod FilesBack

@@ -1,0 +1,6 @@
+//! The texts of faults: why a file isn't accepted.
+#![tactic(auto)]
+
+mod text;
+
+pub use text::{Named, Plain, push_named, push_plain};

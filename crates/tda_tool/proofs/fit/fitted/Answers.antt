@@ -1,0 +1,16 @@
+use Rattle.std.proofs.Common.{rules, ap, ◌∙◌}
+use Rattle.tda_tool.specs.Ending.{fit_ending}
+use Rattle.tda_tool.proofs.fit.fitted.Goals as goal
+
+pub returns-clause-made : goal.returns-clause-made
+returns-clause-made c =
+    let t = c.in_ok-texts.ensures in
+    let tables_are = t.tables_are in
+    let prices_are = t.prices_are in
+    record {
+      tables = t.tables;
+      price = t.price;
+      certified = t.certified;
+      outputs = record { names_are = search rules; texts_are = search rules };
+      report = c.in_ok-report.ensures ∙ ap (λ d. (fit_ending c.args.spine.now d).report) t.deviation;
+    }

@@ -1,0 +1,35 @@
+use Rattle.std.proofs.Common.{rules, of_calls, subst}
+use Rattle.tda_invar.specs.Known.{known_of}
+use Rattle.tda_descent.specs.Fits.{AreFirstFits}
+use Rattle.tda_tool.specs.Fitting.{inputs_by}
+use Rattle.tda_tool.proofs.FitSizes.{nodes_fit, arcs_fit}
+use Rattle.tda_tool.proofs.Kept.{all_taken, next_takes}
+use Rattle.tda_tool.proofs.Releasing.{texts_released}
+use Rattle.tda_tool.proofs.release.release_texts.Goals as goal
+
+pub descend-fitted-requires-clause-nodes : goal.descend-fitted-requires-clause-nodes
+descend-fitted-requires-clause-nodes c = nodes_fit c.args.schema.now c.args.spine.now c.units.ensures.sound.tree c.requires.limits _ c.in_ok-solver.ensures.nodes
+
+pub descend-fitted-requires-clause-arcs : goal.descend-fitted-requires-clause-arcs
+descend-fitted-requires-clause-arcs c = arcs_fit c.args.schema.now c.args.spine.now c.units.ensures.sound.tree c.requires.limits _ c.in_ok-solver.ensures.arcs
+
+pub descend-fitted-requires-clause-keep : goal.descend-fitted-requires-clause-keep
+descend-fitted-requires-clause-keep c = λ fits last formed goes fit is y same a b d e f g.
+    let t = all_taken _ (λ k x next step. record { name = search (rules, of_calls); schema = search (rules, of_calls); spine = search (rules, of_calls); has = search (rules, of_calls) }) fits _ last goes in
+    next_takes _ last fits t c.requires.limits.depth fit y.now is same
+
+pub returns-in-Ok : goal.returns-in-Ok
+returns-in-Ok c =
+    let e = c.in-Ok.ensures in
+    let t = all_taken _ (λ k x next step. record { name = search (rules, of_calls); schema = search (rules, of_calls); spine = search (rules, of_calls); has = search (rules, of_calls) }) e.0 _ _ e.1 in
+    let name = t.name in
+    let i = inputs_by c.args.schema.now c.args.spine.now (known_of c.args.spine.now c.args.invariants.now) c.args.measurements.now in
+    let all = texts_released i c.units.ensures.sound e.0 (subst (λ curve. AreFirstFits curve i e.0) c.new-loss.ensures.curve e.2) e.3 c.in_ok-texts.texts c.descend-fitted.new.keep.0.now c.in_ok-texts.ensures t.has in
+    record {
+      tables = all.tables;
+      price = all.price;
+      certified = all.certified;
+      tables_are = let is = all.tables_are in search rules;
+      prices_are = let is = all.prices_are in search rules;
+      deviation = let is = all.deviation in search rules;
+    }

@@ -1,0 +1,116 @@
+// The fits of a release, and their texts.
+ghost use Rattle.std.specs.Prelude.{◌≡◌, IfOk};
+ghost use Rattle.tda_model.specs.Sizes.{nodes_limit, arcs_limit};
+ghost use Rattle.tda_invar.specs.Known.{known_of};
+ghost use Rattle.tda_tool.specs.Fitting.{inputs_by};
+ghost use Rattle.tda_tool.specs.Reading.{AreInputs};
+ghost use Rattle.tda_tool.specs.Texts.{AreTextsOf};
+
+use std::alloc::Global;
+use tda_descent::{Fit, descend};
+use tda_invar::Invariants;
+use tda_io::NoMemory;
+use tda_loss::{Curve, Loss, square};
+use tda_out::{write_tables, write_tables_header};
+use tda_places::Measurements;
+use tda_prices::{write_prices, write_prices_header};
+use tda_scale::Scale;
+use tda_schema::Schema;
+use tda_spine::Spine;
+
+/// The files of tables and of prices as far as fits were made, and the deviation of these fits.
+#[derive(Debug, Drop)]
+pub(crate) struct Texts {
+    pub(crate) tables: Vec<u8>,
+    pub(crate) prices: Vec<u8>,
+    pub(crate) deviation: u128,
+}
+
+impl Texts {
+    ghost use Rattle.std.specs.Prelude.{◌≡◌, IfOk, IsTrue, OnOk, length};
+    ghost use Rattle.tda_descent.specs.Kept.{IsFormed};
+    ghost use Rattle.tda_tool.specs.Texts.{AreHeaders, HasFit};
+
+    // The headers alone.
+    fn new(alloc: Global) -> Result<Texts, NoMemory>
+        ensures { IfOk result AreHeaders }
+    {
+        let mut tables = Vec::new(alloc);
+        write_tables_header(&mut tables)?;
+        let mut prices = Vec::new(alloc);
+        write_prices_header(&mut prices)?;
+        Ok(Texts {
+            tables,
+            prices,
+            deviation: 0,
+        })
+    }
+
+    // Appends the rows of a fit.
+    fn push(&mut self, schema: &Schema, spine: &Spine, fit: &Fit) -> Result<(), NoMemory>
+        requires belong { spine.now.depth ≡ length schema.now.levels }
+        requires formed { IsFormed schema.now spine.now fit.now }
+        ensures { OnOk result (HasFit schema.now spine.now fit.now self.old self.new) }
+    {
+        // The units are a tree.
+        let _ = spine.units();
+        write_tables(schema, spine, &fit.units, &fit.counts, &mut self.tables)?;
+        write_prices(schema, spine, fit.parent, &fit.prices, &mut self.prices)?;
+        self.deviation = self.deviation.saturating_add(fit.deviation);
+        Ok(())
+    }
+
+    // Appends the rows of a fit, and answers whether memory sufficed.
+    fn keep(&mut self, schema: &Schema, spine: &Spine, fit: &Fit) -> bool
+        requires belong { spine.now.depth ≡ length schema.now.levels }
+        requires formed { IsFormed schema.now spine.now fit.now }
+        ensures { IsTrue result → HasFit schema.now spine.now fit.now self.old self.new }
+    {
+        self.push(schema, spine, fit).is_ok()
+    }
+}
+
+// How many nodes and arcs the network of a fit has at most.
+const NODES: u32 = 2048;
+
+const ARCS: usize = 65536;
+
+// A solver of the network of any fit.
+fn new_solver(alloc: Global) -> Result<Scale, NoMemory>
+    ensures nodes { IfOk result (λ s. s.nodes ≡ nodes_limit) }
+    ensures arcs { IfOk result (λ s. s.arcs ≡ arcs_limit) }
+{
+    Scale::new(alloc, NODES, ARCS)
+}
+
+/// The files of a release: at each fit the tables are least ones, as its prices show.
+pub(crate) fn release_texts(
+    alloc: Global,
+    schema: &Schema,
+    spine: &Spine,
+    invariants: &Invariants,
+    measurements: &Measurements,
+) -> Result<Texts, NoMemory>
+    requires { AreInputs schema.now spine.now invariants.now measurements.now }
+    ensures { IfOk result (AreTextsOf (inputs_by schema.now spine.now (known_of spine.now invariants.now) measurements.now)) }
+{
+    let mut solver = new_solver(alloc)?;
+    let loss = Loss::new(Curve::Square, square);
+    let mut texts = Texts::new(alloc)?;
+    // The units are a tree.
+    let _ = spine.units();
+    let fitted = descend(
+        alloc,
+        schema,
+        spine,
+        invariants,
+        measurements,
+        &loss,
+        &mut solver,
+        &mut |fit: &Fit| texts.keep(schema, spine, fit),
+    );
+    match fitted {
+        Ok(()) => Ok(texts),
+        Err(_) => Err(NoMemory),
+    }
+}
