@@ -18,3 +18,5 @@ pub mod Walks
 pub mod Passes
 pub mod Rows
 pub mod SumsBy
+pub mod ArcWalks
+pub mod Judged

@@ -54,8 +54,10 @@ fn count_classes(
     requires cells { cell_count schema.now ≡ length (slice_index_or tables.now unit []) }
     requires level { level < length schema.now.levels }
     requires query { query < length (queries_at schema.now level) }
+    requires few { persons_in schema.now (count_at tables.now unit) ≤ persons_limit }
     requires size { length counts.old ≡ cell_count schema.now }
     ensures size { length counts.new ≡ cell_count schema.now }
+    ensures few { All (λ n. n ≤ persons_limit) counts.new }
     ensures sums { (c : ℕ) → Contains (classes_of schema.now (query_at schema.now level query)) c → slice_index counts.new c ≡ sum_by (count_at tables.now unit) (class_cells schema.now (query_at schema.now level query) c) }
 {
     // Each query is over all possible cells.
@@ -119,6 +121,7 @@ fn unit_deviation<F: Fn(i64) -> i128>(
     requires kept { IsKept F.pre F.post loss.now }
     requires counts { AreCountsOf schema.now spine.now tables.now }
     requires unit { IsUnit spine.now unit }
+    requires level { level_of spine.now unit < length schema.now.levels }
     requires few { persons_in schema.now (count_at tables.now unit) ≤ persons_limit }
     requires size { length counts.old ≡ cell_count schema.now }
     ensures size { length counts.new ≡ cell_count schema.now }

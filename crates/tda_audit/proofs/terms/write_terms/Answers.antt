@@ -22,25 +22,16 @@ low_is : (s : Schema) (level own count k : ℕ) → level ≡ own → count ≡ 
 low_is s level own count k e d l = subst (λ m. k < length (queries_at s m)) e (omega arith)
 
 pub loop-query-preserved : goal.loop-query-preserved
-loop-query-preserved c = λ inv.
-    let s = c.args.schema.now in
-    let i = inputs_of s c.args.spine.now inv c.args.m.now in
-    let own = level_of c.args.spine.now c.args.unit in
-    let k = c.loop-query.query in
-    let cells = group_at c.args.tree.now.groups c.args.group in
-    let before = terms_from i c.args.unit 0 (take k (queries_at s own)) cells in
-    let lk = low_is s c.level-level.result own c.queries-query-end.result k c.level-level.ensures c.queries-query-end.ensures.count c.loop-query-test.true in
-    let more = more_is i c.args.unit (queries_at s own) cells k _ lk in
-    elim c.match-query_term.branch [
-      | in-Some+in_ok-push w ↦ ? ∙ ap (λ ts. ts ++ w.in-Some.term ∷ []) (c.loop-query.invariant inv) ∙ ap (λ ts. before ++ ts) (w.in-Some.ensures inv) ∙ sym more
-      | in_default w ↦ ap (λ v. v.items) w.terms-is ∙ c.loop-query.invariant inv ∙ sym (append-nil before) ∙ ap (λ ts. before ++ ts) (w.in_default.ensures inv) ∙ sym more
-    ]
+loop-query-preserved c = ?
 
-pub returns : goal.returns
-returns c = λ inv.
+pub returns-clause-net : goal.returns-clause-net
+returns-clause-net c = ?
+
+pub returns-clause-terms : goal.returns-clause-terms
+returns-clause-terms c = λ inv.
     let s = c.args.schema.now in
     let own = level_of c.args.spine.now c.args.unit in
     let count = c.queries-query-end.ensures.count ∙ ap (λ m. length (queries_at s m)) c.level-level.ensures in
-    c.loop-query.invariant inv
+    c.loop-query.invariant.are inv
     ∙ ap (λ qs. terms_from (inputs_of s c.args.spine.now inv c.args.m.now) c.args.unit 0 qs (group_at c.args.tree.now.groups c.args.group))
     (take_all c.loop-query.query (queries_at s own) (omega (arith, count, c.loop-query-test.false)))
