@@ -20,3 +20,4 @@ pub mod Rows
 pub mod SumsBy
 pub mod ArcWalks
 pub mod Judged
+pub mod Rises

@@ -31,8 +31,10 @@ use tda_schema::Schema;
 
 // The number of the giver of a possible cell, which is the cell of this rank: its kind in the root fit, the rank in a split.
 fn giver(schema: &Schema, fit: Option<u32>, rank: usize, cell: u32) -> usize
-    requires { cell < cell_count schema.now }
-    ensures { result ≡ giver_number schema.now fit rank cell }
+    requires cell { cell < cell_count schema.now }
+    requires rank { rank < length (possible_cells schema.now) }
+    ensures number { result ≡ giver_number schema.now fit rank cell }
+    ensures in_range { result < giver_count schema.now fit }
 {
     match fit {
         None => usize::from(schema.kind_of(cell)),

@@ -102,7 +102,8 @@ fn last_cost<F: Fn(i64) -> i128>(terms: &[Term], loss: &Loss<F>, persons: u64) -
     requires terms { AreNetTerms terms.now }
     requires kept { IsKept F.pre F.post loss.now }
     requires few { persons ≤ persons_limit }
-    ensures { 1 ≤ persons → result ≡ arc_cost (value_of loss.now.curve) terms.now persons -ℤ arc_cost (value_of loss.now.curve) terms.now (persons - 1) }
+    ensures near { IsWithin (2 ^ 61) result }
+    ensures value { 1 ≤ persons → result ≡ arc_cost (value_of loss.now.curve) terms.now persons -ℤ arc_cost (value_of loss.now.curve) terms.now (persons - 1) }
 {
     step_cost(terms, loss, persons.saturating_sub(1))
 }
@@ -166,6 +167,8 @@ pub(crate) fn wrong_group<F: Fn(i64) -> i128>(
     requires limit { All (λ z. nat_abs z ≤ price_limit) groups.now }
     ensures { (price : Pricing) → AreGroupPrices price fit unit groups.now → IfOk result (λ o. o ≡ first_failing (inputs_of schema.now spine.now inv.now m.now) (level_groups schema.now) loss.now.curve (count_at tables.now) price fit (group_names (inputs_of schema.now spine.now inv.now m.now) (level_groups schema.now) unit)) }
 {
+    // There are at most 4,096 cells.
+    let _ = schema.cells();
     for group in 0..tree.len() {
         write_terms(terms, schema, spine, tree, m, unit, group)?;
         let persons = group_persons(tree, tables, unit, group);
