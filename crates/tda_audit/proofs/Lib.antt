@@ -21,3 +21,4 @@ pub mod SumsBy
 pub mod ArcWalks
 pub mod Judged
 pub mod Rises
+pub mod ChildArcs
