@@ -1,7 +1,8 @@
 -- A loop over the arcs of a fit: it ends at the first that fails.
 use Rattle.std.proofs.Common.{◌≡◌, ℕ, ◌+◌, ◌<◌, ◌≤◌, Bool, List, [], ◌∷◌, ◌++◌, length, get_or, map, Option, Some, None, refl, sym, ap, ◌∙◌}
 use Rattle.std.proofs.lemmas.List.{append_assoc}
-use Rattle.std.specs.Prelude.{find}
+use Rattle.std.specs.Prelude.{find, Result, Ok, Err, IfOk}
+use Rattle.tda_io.specs.declared.NoMemory.{NoMemory}
 use Rattle.std.specs.List.{flat_map}
 use Rattle.tda_model.specs.Tables.{Tables}
 use Rattle.tda_model.specs.Release.{Inputs}
@@ -84,3 +85,9 @@ module _ (i : Inputs) (groups : ℕ → List (List ℕ)) (c : Curve) (x : Tables
 
   pub rest_fails : (xs ys : List ArcName) (o : Option Verdict) → None ≡ first_failing i groups c x price fit xs → o ≡ first_failing i groups c x price fit ys → o ≡ first_failing i groups c x price fit (xs ++ ys)
   rest_fails xs ys o none found = found ∙ ap (λ r. or_else r (first_failing i groups c x price fit ys)) none ∙ sym (parts xs ys)
+
+  -- the same of what memory may end
+  pub rest_fails_ok : (xs ys : List ArcName) (r : Result (Option Verdict) NoMemory) → None ≡ first_failing i groups c x price fit xs
+      → IfOk r (λ o. o ≡ first_failing i groups c x price fit ys) → IfOk r (λ o. o ≡ first_failing i groups c x price fit (xs ++ ys))
+  rest_fails_ok xs ys (Ok o) none found = rest_fails xs ys o none found
+  rest_fails_ok xs ys (Err e) none found = found

@@ -22,3 +22,4 @@ pub mod ArcWalks
 pub mod Judged
 pub mod Rises
 pub mod ChildArcs
+pub mod PriceParts
