@@ -22,7 +22,7 @@ joined_appended : {Y Z : Type 0} (h : Y → List Z) (xs ys : List Y) → flat_ma
 joined_appended h [] ys = refl
 joined_appended h (x ∷ xs) ys = ap (λ zs. h x ++ zs) (joined_appended h xs ys) ∙ sym (append_assoc (h x) (flat_map h xs) (flat_map h ys))
 
-joined_mapped : {X Y Z : Type 0} (h : Y → List Z) (f : X → Y) (xs : List X) → flat_map h (map f xs) ≡ flat_map (λ x. h (f x)) xs
+pub joined_mapped : {X Y Z : Type 0} (h : Y → List Z) (f : X → Y) (xs : List X) → flat_map h (map f xs) ≡ flat_map (λ x. h (f x)) xs
 joined_mapped h f [] = refl
 joined_mapped h f (x ∷ xs) = ap (λ zs. h (f x) ++ zs) (joined_mapped h f xs)
 

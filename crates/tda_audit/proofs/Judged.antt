@@ -1,12 +1,13 @@
 -- What is judged first: the rules of what is published. Where they hold tables keep them, and no unit has too many persons.
 use Rattle.std.proofs.Common.{◌≡◌, ℕ, ◌<◌, ◌≤◌, List, ◌++◌, ℤ, length, map, filter, Option, Some, None, refl, sym, ap, ◌∙◌, arith}
-use Rattle.std.specs.Prelude.{find, unwrap_or}
+use Rattle.std.specs.Prelude.{find, unwrap_or, Result, Ok, Err, IfOk}
+use Rattle.tda_io.specs.declared.NoMemory.{NoMemory}
 use Rattle.std.specs.List.{flat_map, range_with_len}
 use Rattle.tda_model.specs.Schema.{Schema}
 use Rattle.tda_model.specs.Cells.{all_cells}
 use Rattle.tda_model.specs.Bounds.{persons_limit}
 use Rattle.tda_model.specs.Groups.{kind_count}
-use Rattle.tda_model.specs.Spine.{Spine, IsUnit, IsTree, nation_of, unit_numbers, units_at}
+use Rattle.tda_model.specs.Spine.{Spine, IsUnit, IsTree, nation_of, unit_numbers, units_at, parents_of}
 use Rattle.tda_model.specs.Tables.{Tables, persons_in}
 use Rattle.tda_model.specs.Release.{Inputs}
 use Rattle.tda_model.proofs.Sums.{Each, each_any}
@@ -21,11 +22,12 @@ use Rattle.tda_fitnet.specs.Inputs.{inputs_of}
 use Rattle.tda_fitnet.proofs.GroupBounds.{group_few}
 use Rattle.tda_prices.specs.Items.{Pricing}
 use Rattle.tda_audit.specs.Certified.{Keeps}
-use Rattle.tda_audit.specs.Verdicts.{of_cells, all_sums, all_impossible, all_totals, all_kinds, all_rules, sides_of, all_verdicts, breaks, fails, verdict}
+use Rattle.tda_audit.specs.Verdicts.{of_cells, all_sums, all_impossible, all_totals, all_kinds, all_rules, sides_of, all_verdicts, breaks, fails, first_failing, names_of, verdict}
 use Rattle.tda_audit.specs.declared.verdict.Verdict.{Verdict}
 use Rattle.tda_audit.specs.declared.verdict.Verdict.TheVariants.{Yes, Sum, Impossible, Total, Kind}
 use Rattle.tda_audit.proofs.Eaches.{each_append, each_joined, each_mapped}
 use Rattle.tda_audit.proofs.Walks.{or_else, find_joined}
+use Rattle.tda_audit.proofs.ArcWalks.{joined_mapped}
 use Rattle.tda_audit.proofs.Passes.{find_alike}
 use Rattle.tda_audit.proofs.Kept.{few}
 use Rattle.tda_audit.proofs.Decided.{rules_keep}
@@ -76,6 +78,24 @@ module _ (c : Curve) (i : Inputs) (groups : ℕ → List (List ℕ)) (x : Tables
       → unwrap_or o Yes ≡ verdict i groups c x price
   arc_is o none e =
       ap (λ r. unwrap_or r Yes) (e ∙ ap (λ r. or_else r (find (fails i groups c x price) (flat_map (sides_of i groups) (fits_of sp)))) none ∙ sym parts)
+
+  -- ---- the nation's fit, and then the splits
+  abbrev in_splits : Option Verdict
+  in_splits = find (fails i groups c x price) (flat_map (λ p. sides_of i groups (Some p)) (parents_of sp))
+
+  fits_part : find (fails i groups c x price) (flat_map (sides_of i groups) (fits_of sp)) ≡ or_else (first_failing i groups c x price None (names_of i groups None)) in_splits
+  fits_part =
+      find_joined (fails i groups c x price) (sides_of i groups None) (flat_map (sides_of i groups) (map Some (parents_of sp)))
+      ∙ ap (λ zs. or_else (first_failing i groups c x price None (names_of i groups None)) (find (fails i groups c x price) zs)) (joined_mapped (sides_of i groups) Some (parents_of sp))
+
+  pub root_fails : (v : Verdict) → Some v ≡ first_failing i groups c x price None (names_of i groups None) → Some v ≡ find (fails i groups c x price) (flat_map (sides_of i groups) (fits_of i.spine))
+  root_fails v e = ap (λ o. or_else o in_splits) e ∙ sym fits_part
+
+  pub splits_fail : (r : Result (Option Verdict) NoMemory) → None ≡ first_failing i groups c x price None (names_of i groups None)
+      → IfOk r (λ o. o ≡ find (fails i groups c x price) (flat_map (λ p. sides_of i groups (Some p)) (parents_of i.spine)))
+      → IfOk r (λ o. o ≡ find (fails i groups c x price) (flat_map (sides_of i groups) (fits_of i.spine)))
+  splits_fail (Ok o) none e = e ∙ ap (λ r. or_else r in_splits) none ∙ sym fits_part
+  splits_fail (Err e) none h = h
 
 -- no group of a unit has too many persons
 pub groups_few : (s : Schema) (sp : Spine) (inv : JoinedLists) (m : List ℤ) → IsJoined s sp inv → (x : Tables) → Keeps (inputs_of s sp inv m) x
