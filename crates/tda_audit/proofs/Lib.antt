@@ -23,3 +23,4 @@ pub mod Judged
 pub mod Rises
 pub mod ChildArcs
 pub mod PriceParts
+pub mod Deviations

@@ -44,7 +44,7 @@ weight_small common q share few =
     let le : n * common ≤ d * (16 * common) = subst (λ k. n * common ≤ k) e most in
     let small = div-le_of_le-mul d le in omega arith
 
-near_within : (z : ℤ) → IsWithinLimit z → IsWithin (2 ^ 31) z
+pub near_within : (z : ℤ) → IsWithinLimit z → IsWithin (2 ^ 31) z
 near_within (pos n) h = record { low = omega (arith, ints); high = omega (arith, ints) }
 near_within (negsuc n) h = record { low = omega (arith, ints); high = omega (arith, ints) }
 

@@ -52,12 +52,13 @@ pub fn audit<F: Fn(i64) -> i128>(
     ensures verdict { IfOk result (IsVerdict loss.now.curve (inputs_of schema.now spine.now inv.now m.now) (count_at tables.now) (price_in schema.now spine.now prices.now.numbers)) }
     ensures tells { OnOk result (YesTells loss.now.curve (inputs_of schema.now spine.now inv.now m.now)) }
 {
+    // The shares are few and small, and so is their common denominator.
+    let _ = schema.levels();
+    let _ = schema.common();
+    let trees = level_trees(alloc, schema)?;
     if let Some(verdict) = broken_rule(alloc, schema, spine, inv, tables)? {
         return Ok(verdict);
     }
-    // The common denominator of the shares is small.
-    let _ = schema.common();
-    let trees = level_trees(alloc, schema)?;
     let wrong = wrong_arc(alloc, schema, spine, &trees, inv, m, tables, prices, loss)?;
     Ok(wrong.unwrap_or(Verdict::Yes))
 }
