@@ -1,7 +1,7 @@
 use Rattle.std.proofs.Common.{◌≡◌, ◌*◌, ◌≤◌, ◌^◌, take, sum_by}
 use Rattle.tda_groups.specs.Order.{group_at}
 use Rattle.tda_out.specs.Counts.{count_at}
-use Rattle.tda_audit.proofs.arcs.group_persons.Given as goal
+use Rattle.tda_audit.proofs.groups.group_persons.Given as goal
 
 abbrev pub invariant-loop-cell : goal.invariant-loop-cell
 invariant-loop-cell l = record {
