@@ -1,13 +1,4 @@
-pub mod Asked
-pub mod Judged
-pub mod Stops
-pub mod Bases
-pub mod Beside
-pub mod Fitted
-pub mod Agreed
-pub mod Surveys
-pub mod Noises
-pub mod FaultUnits
+pub mod Reads
 pub mod Files
 pub mod Begun
 pub mod Outputs
@@ -15,12 +6,4 @@ pub mod Ran
 pub mod Writes
 pub mod Surveyed
 pub mod Prepared
-pub mod Squares
-pub mod UnitsHere
-pub mod FitSizes
-pub mod Folded
-pub mod PriceCounts
-pub mod Kept
-pub mod Written
-pub mod Releasing
 mod Worked
