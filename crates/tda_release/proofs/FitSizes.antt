@@ -22,9 +22,9 @@ module _ (s : Schema) (sp : Spine) (tree : IsTree sp (nation_of sp)) where
     pub largest_nodes : (n : ℕ) → IsLargest (λ fit. (fit_size s sp fit).nodes) (fits_of sp) n → n ≤ nodes_limit
     largest_nodes n is =
         let each : All (λ fit. (fit_size s sp fit).nodes ≤ nodes_limit) (fits_of sp) = each_fit (λ fit. (fit_size s sp fit).nodes ≤ nodes_limit) limits.root_nodes limits.nodes in
-        subst (λ m. m ≤ nodes_limit) is.some.2 (All-contains _ (fits_of sp) is.some.0 each is.some.1)
+        subst (λ m. m ≤ nodes_limit) is.some.2 (All-contains (λ fit. (fit_size s sp fit).nodes ≤ nodes_limit) (fits_of sp) is.some.0 each is.some.1)
 
     pub largest_arcs : (n : ℕ) → IsLargest (λ fit. (fit_size s sp fit).arcs) (fits_of sp) n → n ≤ arcs_limit
     largest_arcs n is =
         let each : All (λ fit. (fit_size s sp fit).arcs ≤ arcs_limit) (fits_of sp) = each_fit (λ fit. (fit_size s sp fit).arcs ≤ arcs_limit) limits.root_arcs limits.arcs in
-        subst (λ m. m ≤ arcs_limit) is.some.2 (All-contains _ (fits_of sp) is.some.0 each is.some.1)
+        subst (λ m. m ≤ arcs_limit) is.some.2 (All-contains (λ fit. (fit_size s sp fit).arcs ≤ arcs_limit) (fits_of sp) is.some.0 each is.some.1)

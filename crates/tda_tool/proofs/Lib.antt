@@ -2,6 +2,7 @@ pub mod Reads
 pub mod Files
 pub mod Begun
 pub mod Outputs
+pub mod Released
 pub mod Ran
 pub mod Writes
 pub mod Surveyed

@@ -61,8 +61,9 @@ files_are words names texts report a are is =
     ∙ ap (λ text. wholes (values_in (pairs_after words) names) texts ++ whole dash text ∷ []) is
 
 -- one more output
-pub more_outputs : (names texts : List (List ℕ)) (os : List Output) (o : Output) → AreOutputs names texts os → AreOutputs (names ++ o.name.now ∷ []) (texts ++ o.text.items ∷ []) (os ++ o ∷ [])
-more_outputs names texts os o are = record {
-  names_are = map-append (λ x. x.name.now) os (o ∷ []) ∙ ap (λ ns. ns ++ o.name.now ∷ []) are.names_are;
-  texts_are = map-append (λ x. x.text.items) os (o ∷ []) ∙ ap (λ ts. ts ++ o.text.items ∷ []) are.texts_are;
+pub more_outputs : (names texts : List (List ℕ)) (name text : List ℕ) (os : List Output) (o : Output) → AreOutputs names texts os → o.name.now ≡ name → o.text.items ≡ text
+    → AreOutputs (names ++ name ∷ []) (texts ++ text ∷ []) (os ++ o ∷ [])
+more_outputs names texts name text os o are name_is text_is = record {
+  names_are = map-append (λ x. x.name.now) os (o ∷ []) ∙ ap (λ ns. ns ++ o.name.now ∷ []) are.names_are ∙ ap (λ n. names ++ n ∷ []) name_is;
+  texts_are = map-append (λ x. x.text.items) os (o ∷ []) ∙ ap (λ ts. ts ++ o.text.items ∷ []) are.texts_are ∙ ap (λ t. texts ++ t ∷ []) text_is;
 }
