@@ -5,7 +5,7 @@ use Rattle.std.specs.Str.{bytes_eq}
 use Rattle.std.specs.Map.{lookup}
 use Rattle.tda_io.specs.Texts.{int_of}
 use Rattle.tda_command.specs.declared.words.Command.{Command}
-use Rattle.tda_command.specs.declared.words.Command.TheVariants.{Fit, Measure}
+use Rattle.tda_command.specs.declared.words.Command.TheVariants.{Fit, Measure, Run}
 use Rattle.tda_command.specs.declared.words.Number.{Number}
 use Rattle.tda_command.specs.declared.words.Number.TheVariants as number
 use Rattle.tda_command.specs.declared.words.Source.{Source}
@@ -70,11 +70,23 @@ fit_form = record {
   numbers = [];
 }
 
+-- the files that are measured, and the words of the noise
+abbrev pub survey_files : Source → List (List ℕ)
+survey_files from = codes "schema" ∷ codes "spine" ∷ codes "facilities" ∷ codes "records" ∷ source_file from ∷ []
+
 abbrev pub measure_form : Source → Form
 measure_form from = record {
   word = codes "measure";
-  reads = codes "schema" ∷ codes "spine" ∷ codes "facilities" ∷ codes "records" ∷ source_file from ∷ [];
+  reads = survey_files from;
   writes = codes "measurements" ∷ codes "totals" ∷ codes "ledger" ∷ [];
+  numbers = source_numbers from;
+}
+
+abbrev pub run_form : Source → Form
+run_form from = record {
+  word = codes "run";
+  reads = survey_files from;
+  writes = codes "measurements" ∷ codes "totals" ∷ codes "ledger" ∷ codes "tables" ∷ codes "prices" ∷ [];
   numbers = source_numbers from;
 }
 
@@ -82,6 +94,7 @@ measure_form from = record {
 abbrev pub form_of : Source → Command → Form
 form_of from Fit = fit_form
 form_of from Measure = measure_form from
+form_of from Run = run_form from
 
 -- A seed that stands is where the words of the noise come from, and else it is a file of words. Since no other name may stand, the
 -- names of exactly one of the two choices stand.
@@ -162,7 +175,7 @@ abbrev pub source_of : List (List ℕ) → Source
 source_of words = source_in (pairs_after words)
 
 abbrev pub commands : List Command
-commands = Fit ∷ Measure ∷ []
+commands = Fit ∷ Measure ∷ Run ∷ []
 
 -- the command that the words are
 abbrev pub command_of : List (List ℕ) → Option Command

@@ -13,6 +13,8 @@ pub enum Command {
     Measure,
     /// Tables and prices from facilities, totals and measurements.
     Fit,
+    /// Both, from records and words: the tables are made from what is measured.
+    Run,
 }
 
 /// Where the words of the noise come from.
@@ -69,6 +71,7 @@ impl Command {
         match self {
             Command::Measure => "measure",
             Command::Fit => "fit",
+            Command::Run => "run",
         }
     }
 
@@ -77,10 +80,10 @@ impl Command {
         ensures { map (λ name. name.now) result.now ≡ (form_of source self).reads }
     {
         match (self, source) {
-            (Command::Measure, Source::Words) => {
+            (Command::Measure | Command::Run, Source::Words) => {
                 &["schema", "spine", "facilities", "records", "words"]
             }
-            (Command::Measure, Source::Seed) => {
+            (Command::Measure | Command::Run, Source::Seed) => {
                 &["schema", "spine", "facilities", "records", "seed"]
             }
             (Command::Fit, _) => &["schema", "spine", "facilities", "totals", "measurements"],
@@ -94,6 +97,7 @@ impl Command {
         match self {
             Command::Measure => &["measurements", "totals", "ledger"],
             Command::Fit => &["tables", "prices"],
+            Command::Run => &["measurements", "totals", "ledger", "tables", "prices"],
         }
     }
 
@@ -102,8 +106,8 @@ impl Command {
         ensures { result.now ≡ (form_of source self).numbers }
     {
         match (self, source) {
-            (Command::Measure, Source::Seed) => &[Number::Place, Number::Budget],
-            (Command::Measure, Source::Words) | (Command::Fit, _) => &[],
+            (Command::Measure | Command::Run, Source::Seed) => &[Number::Place, Number::Budget],
+            (Command::Measure | Command::Run, Source::Words) | (Command::Fit, _) => &[],
         }
     }
 }
@@ -292,6 +296,8 @@ pub fn judge(words: &[String]) -> Option<Command>
         Some(Command::Fit)
     } else if has_form(Command::Measure, words) {
         Some(Command::Measure)
+    } else if has_form(Command::Run, words) {
+        Some(Command::Run)
     } else {
         None
     }

@@ -1,10 +1,11 @@
 -- An answer's outputs: where the command has them, and their texts.
 use Rattle.std.proofs.Common.{◌≡◌, ◌∙◌, ◌++◌, ◌∷◌, [], List, ℕ, refl, ap, subst, map, Option}
 use Rattle.std.specs.List.{zip}
+use Rattle.std.proofs.lemmas.List.{map-append}
 use Rattle.tda_io.specs.Outside.{Written, Tray}
 use Rattle.tda_command.specs.Words.{pairs_after, values_in, writes_of, write_names, dash}
 use Rattle.tda_tool.specs.Outcome.{whole, Leaves, LeavesReport}
-use Rattle.tda_tool.specs.Ending.{Ending}
+use Rattle.tda_inputs.specs.Ending.{Ending}
 use Rattle.tda_tool.specs.Answer.{target_of, targets_of, outputs_of, files_of, AreOutputs, ReportsAlone}
 use Rattle.tda_tool.specs.declared.answer.Output.{Output}
 use Rattle.tda_tool.specs.declared.answer.Answer.{Answer}
@@ -29,7 +30,7 @@ wholes_are words [] = refl
 wholes_are words (o ∷ os) = ap (λ xs. whole (target_of words o) o.text.items ∷ xs) (wholes_are words os)
 
 -- the outputs of these names and texts
-pub outputs_are : (words names texts : List (List ℕ)) (a : Answer) → AreOutputs names texts a → outputs_of words a ≡ wholes (values_in (pairs_after words) names) texts
+pub outputs_are : (words names texts : List (List ℕ)) (a : Answer) → AreOutputs names texts a.outputs.items → outputs_of words a ≡ wholes (values_in (pairs_after words) names) texts
 outputs_are words names texts a are =
     wholes_are words a.outputs.items
     ∙ ap (λ ns. wholes (values_in (pairs_after words) ns) (texts_in a.outputs.items)) are.names_are
@@ -53,8 +54,16 @@ report_alone words e a old new alone left =
     left
 
 -- the outputs of these names and texts, and then this report
-pub files_are : (words names texts : List (List ℕ)) (report : List ℕ) (a : Answer) → AreOutputs names texts a → a.report.items ≡ report
+pub files_are : (words names texts : List (List ℕ)) (report : List ℕ) (a : Answer) → AreOutputs names texts a.outputs.items → a.report.items ≡ report
     → files_of words a ≡ wholes (values_in (pairs_after words) names) texts ++ whole dash report ∷ []
 files_are words names texts report a are is =
     ap (λ fs. fs ++ whole dash a.report.items ∷ []) (outputs_are words names texts a are)
     ∙ ap (λ text. wholes (values_in (pairs_after words) names) texts ++ whole dash text ∷ []) is
+
+-- one more output
+pub more_outputs : (names texts : List (List ℕ)) (name text : List ℕ) (os : List Output) (o : Output) → AreOutputs names texts os → o.name.now ≡ name → o.text.items ≡ text
+    → AreOutputs (names ++ name ∷ []) (texts ++ text ∷ []) (os ++ o ∷ [])
+more_outputs names texts name text os o are name_is text_is = record {
+  names_are = map-append (λ x. x.name.now) os (o ∷ []) ∙ ap (λ ns. ns ++ o.name.now ∷ []) are.names_are ∙ ap (λ n. names ++ n ∷ []) name_is;
+  texts_are = map-append (λ x. x.text.items) os (o ∷ []) ∙ ap (λ ts. ts ++ o.text.items ∷ []) are.texts_are ∙ ap (λ t. texts ++ t ∷ []) text_is;
+}

@@ -5,26 +5,28 @@ use Rattle.tda_io.specs.Outside.{Shelf}
 use Rattle.tda_io.specs.declared.outside.NoMemory.{NoMemory}
 use Rattle.tda_measure.specs.Noise.{variances_of, IsNoise, IsDetermined}
 use Rattle.tda_model.specs.Release as release
-use Rattle.tda_tool.specs.declared.inputs.Inputs.{Inputs}
-use Rattle.tda_tool.specs.Measuring.{Survey}
+use Rattle.tda_inputs.specs.declared.inputs.Inputs.{Inputs}
+use Rattle.tda_tool.specs.Measuring.{Draws}
+use Rattle.tda_inputs.specs.Survey.{Survey}
 use Rattle.tda_command.specs.Words.{command_of, form_in, reads_of, pairs_after, values_in}
-use Rattle.tda_tool.specs.Ending.{Ending}
-use Rattle.tda_tool.specs.Due.{Given, given_by, failing_at, inputs_from, survey_from, task_by, due_task}
-use Rattle.tda_tool.specs.Outcome.{AsksPrefix, asks_all}
-use Rattle.tda_tool.specs.Files.{place_of_file}
-use Rattle.tda_tool.specs.Reading.{Gathers, AsksFiles, CountsRead, GathersInputs, Surveys, IsCounted, noise_words}
-use Rattle.tda_tool.specs.Answer.{Suits, SuitsBy, AnswersStop, AnswersBy, AnswersNoise, AsksBy, AsksPrepared, CountsBy, CountsPrepared, IsFitted, HasSurvey, StopsWith}
+use Rattle.tda_inputs.specs.Ending.{Ending}
+use Rattle.tda_inputs.specs.Accepted.{Given, given_by, failing_at, inputs_from, survey_from}
+use Rattle.tda_tool.specs.Due.{task_by, due_task}
+use Rattle.tda_inputs.specs.Asked.{AsksPrefix, asks_all}
+use Rattle.tda_inputs.specs.Files.{place_of_file}
+use Rattle.tda_inputs.specs.Reading.{Gathers, AsksFiles, CountsRead, GathersInputs, Surveys, IsCounted, noise_words}
+use Rattle.tda_tool.specs.Answer.{Suits, SuitsBy, AnswersStop, AnswersBy, AnswersNoise, AsksBy, AsksPrepared, CountsBy, CountsPrepared, IsFitted, IsDone, HasSurvey, MeasuresWith, RunsWith, StopsWith, StopsAs}
 use Rattle.tda_command.specs.declared.words.Command.{Command}
 use Rattle.tda_command.specs.declared.words.Command.TheVariants as command
-use Rattle.tda_tool.specs.declared.reading.Stop.{Stop}
-use Rattle.tda_tool.specs.declared.reading.Stop.TheVariants as stop
-use Rattle.tda_tool.specs.declared.counted.Counted.{Counted}
+use Rattle.tda_inputs.specs.declared.reading.Stop.{Stop}
+use Rattle.tda_inputs.specs.declared.reading.Stop.TheVariants as stop
+use Rattle.tda_inputs.specs.declared.counted.Counted.{Counted}
 use Rattle.tda_tool.specs.declared.answer.Answer.{Answer}
 use Rattle.tda_tool.specs.declared.answer.Cause.{Cause}
 use Rattle.tda_tool.specs.declared.answer.Cause.TheVariants as cause
-use Rattle.tda_tool.proofs.Asked.{asks_whole}
-use Rattle.tda_tool.proofs.Ran.{fit_task, measure_task, asks_up_to}
-use Rattle.tda_tool.proofs.Surveyed.{measures}
+use Rattle.tda_inputs.proofs.Asked.{asks_whole}
+use Rattle.tda_tool.proofs.Ran.{fit_task, draw_task, asks_up_to}
+use Rattle.tda_tool.proofs.Surveyed.{measures, runs}
 
 -- what was gathered is what the shelf's files come to
 gathered : {X : Type 0} (words : List (List ℕ)) (n : ℕ) (from : Given → Result X Ending) (shelf : Option Shelf) (x : X) → Gathers words n from shelf (Ok x) → IfSome shelf (λ s. from (given_by words s.holds) ≡ Ok x)
@@ -103,8 +105,10 @@ paths_read words c is = ap (λ o. values_in (pairs_after words) (form_in words o
 five_files : (words : List (List ℕ)) → command_of words ≡ Some command.Fit → take 5 (reads_of words) ≡ reads_of words
 five_files words is = subst (λ paths. take 5 paths ≡ paths) (sym (paths_read words command.Fit is)) refl
 
-five_read : (words : List (List ℕ)) → command_of words ≡ Some command.Measure → take 5 (reads_of words) ≡ reads_of words
-five_read words is = subst (λ paths. take 5 paths ≡ paths) (sym (paths_read words command.Measure is)) refl
+five_read : (c : Command) → Draws c → (words : List (List ℕ)) → command_of words ≡ Some c → take 5 (reads_of words) ≡ reads_of words
+five_read command.Measure draws words is = subst (λ paths. take 5 paths ≡ paths) (sym (paths_read words command.Measure is)) refl
+five_read command.Run draws words is = subst (λ paths. take 5 paths ≡ paths) (sym (paths_read words command.Run is)) refl
+five_read command.Fit draws words is = absurd draws
 
 all_of : (names : List (List ℕ)) (n : ℕ) (old new : Option Shelf) → take n names ≡ names → new ≡ option_map (asks_all (take n names)) old → new ≡ option_map (asks_all names) old
 all_of names n old new all asked = asked ∙ ap (λ ns. option_map (asks_all ns) old) all
@@ -137,19 +141,20 @@ fit_done words is old new before now i (Err m) gives asked same done fitted = re
   cause = omega arith;
 }
 
--- ---- `measure`
+-- ---- `measure` and `run`
 
-measure_tasks : (words : List (List ℕ)) → command_of words ≡ Some command.Measure → (given : Given) (e : Ending) → survey_from words given ≡ Err e → task_by words given ≡ Err e
-measure_tasks words is given e stops = measure_task words given (Err e) is stops
+draw_tasks : (c : Command) → Draws c → (words : List (List ℕ)) → command_of words ≡ Some c → (given : Given) (e : Ending) → survey_from words given ≡ Err e → task_by words given ≡ Err e
+draw_tasks c draws words is given e stops = draw_task c draws words given (Err e) is stops
 
-pub measure_stopped : (words : List (List ℕ)) → command_of words ≡ Some command.Measure → (old new : Option Shelf) (before now : ℕ) (e : Stop) (r : Result Answer NoMemory)
+pub draw_stopped : (c : Command) → Draws c → (words : List (List ℕ)) → command_of words ≡ Some c → (old new : Option Shelf) (before now : ℕ) (e : Stop) (r : Result Answer NoMemory)
     → Surveys words old (Err e) → AsksFiles {X = Counted} words 5 old new (Err e) → CountsRead {T = Counted} before now (Err e) → IfOk r (AnswersStop e) → IsPrepared words old new before now r
-measure_stopped words is old new before now (stop.Refused f) r gives asked count answers = stopped_ok Survey words 5 (survey_from words) (measure_tasks words is) old new before now (stop.Refused f) r gives asked count answers
-measure_stopped words is old new before now (stop.Read f) r gives asked count answers = stopped_ok Survey words 5 (survey_from words) (measure_tasks words is) old new before now (stop.Read f) r gives asked count answers
-measure_stopped words is old new before now stop.NoMemory r gives asked count answers = stopped_ok Survey words 5 (survey_from words) (measure_tasks words is) old new before now stop.NoMemory r gives asked count answers
+draw_stopped c draws words is old new before now (stop.Refused f) r gives asked count answers = stopped_ok Survey words 5 (survey_from words) (draw_tasks c draws words is) old new before now (stop.Refused f) r gives asked count answers
+draw_stopped c draws words is old new before now (stop.Read f) r gives asked count answers = stopped_ok Survey words 5 (survey_from words) (draw_tasks c draws words is) old new before now (stop.Read f) r gives asked count answers
+draw_stopped c draws words is old new before now stop.NoMemory r gives asked count answers = stopped_ok Survey words 5 (survey_from words) (draw_tasks c draws words is) old new before now stop.NoMemory r gives asked count answers
 
-module _ (words : List (List ℕ)) (is : command_of words ≡ Some command.Measure) (shelf : Option Shelf) (v : Survey) (c : Counted) (counted : IsCounted v c) (gives : Gathers words 5 (survey_from words) shelf (Ok v)) where
-  survey_is : IsDetermined (IsNoise (variances_of c.schema c.spine)) → HasSurvey words shelf v
+module _ (d : Command) (draws : Draws d) (words : List (List ℕ)) (is : command_of words ≡ Some d) (shelf : Option Shelf) (v : Survey) (c : Counted) (counted : IsCounted v c) (gives : Gathers words 5 (survey_from words) shelf (Ok v))
+    (made : Answer → Type 0) where
+  survey_is : IsDetermined (IsNoise (variances_of c.schema c.spine)) → HasSurvey d words shelf v
   survey_is one = record {
     is = is;
     held = gathered words 5 (survey_from words) shelf v gives;
@@ -162,23 +167,26 @@ module _ (words : List (List ℕ)) (is : command_of words ≡ Some command.Measu
       (subst (λ sp. StopsWith v.schema sp (noise_words c.noise) status a) counted.spine
       (subst (λ s. StopsWith s c.spine (noise_words c.noise) status a) counted.schema stops))
 
-  noise_suits : (k : Cause) (a : Answer) → IsDetermined (IsNoise (variances_of c.schema c.spine)) → AnswersBy k c (noise_words c.noise) a → SuitsBy k words shelf a
-  noise_suits cause.Done a one answers = (command.Measure, (v, survey_is one, measures v c counted a answers))
-  noise_suits cause.Words a one answers = absurd answers
-  noise_suits (cause.Refused f) a one answers = absurd answers
-  noise_suits (cause.Read f) a one answers = absurd answers
-  noise_suits cause.OutOfWords a one answers = (v, survey_is one, stops_same 6 a answers)
-  noise_suits cause.TooLarge a one answers = (v, survey_is one, stops_same 7 a answers)
+  stops_as : (status : ℕ) (a : Answer) → IsDetermined (IsNoise (variances_of c.schema c.spine)) → StopsWith c.schema c.spine (noise_words c.noise) status a → StopsAs status words shelf a
+  stops_as status a one stops = record { command = d; draws = draws; survey = v; has = survey_is one; stops = stops_same status a stops }
 
-  noise_asks : (k : Cause) (a : Answer) (new : Option Shelf) → AnswersBy k c (noise_words c.noise) a → new ≡ option_map (asks_all (take 5 (reads_of words))) shelf → AsksBy k words shelf new
-  noise_asks cause.Done a new answers asked = all_of (reads_of words) 5 shelf new (five_read words is) asked
+  noise_suits : (k : Cause) (a : Answer) → IsDetermined (IsNoise (variances_of c.schema c.spine)) → (made a → IsDone d words shelf a) → AnswersBy (made a) k c (noise_words c.noise) a → SuitsBy k words shelf a
+  noise_suits cause.Done a one done answers = (d, done answers)
+  noise_suits cause.Words a one done answers = absurd answers
+  noise_suits (cause.Refused f) a one done answers = absurd answers
+  noise_suits (cause.Read f) a one done answers = absurd answers
+  noise_suits cause.OutOfWords a one done answers = stops_as 6 a one answers
+  noise_suits cause.TooLarge a one done answers = stops_as 7 a one answers
+
+  noise_asks : (k : Cause) (a : Answer) (new : Option Shelf) → AnswersBy (made a) k c (noise_words c.noise) a → new ≡ option_map (asks_all (take 5 (reads_of words))) shelf → AsksBy k words shelf new
+  noise_asks cause.Done a new answers asked = all_of (reads_of words) 5 shelf new (five_read d draws words is) asked
   noise_asks cause.Words a new answers asked = absurd answers
   noise_asks (cause.Refused f) a new answers asked = absurd answers
   noise_asks (cause.Read f) a new answers asked = absurd answers
-  noise_asks cause.OutOfWords a new answers asked = all_of (reads_of words) 5 shelf new (five_read words is) asked
-  noise_asks cause.TooLarge a new answers asked = all_of (reads_of words) 5 shelf new (five_read words is) asked
+  noise_asks cause.OutOfWords a new answers asked = all_of (reads_of words) 5 shelf new (five_read d draws words is) asked
+  noise_asks cause.TooLarge a new answers asked = all_of (reads_of words) 5 shelf new (five_read d draws words is) asked
 
-  noise_counts : (k : Cause) (a : Answer) (before now : ℕ) → AnswersBy k c (noise_words c.noise) a → now ≡ before → CountsBy k before now
+  noise_counts : (k : Cause) (a : Answer) (before now : ℕ) → AnswersBy (made a) k c (noise_words c.noise) a → now ≡ before → CountsBy k before now
   noise_counts cause.Done a before now answers same = same
   noise_counts cause.Words a before now answers same = same
   noise_counts (cause.Refused f) a before now answers same = same
@@ -186,15 +194,29 @@ module _ (words : List (List ℕ)) (is : command_of words ≡ Some command.Measu
   noise_counts cause.OutOfWords a before now answers same = same
   noise_counts cause.TooLarge a before now answers same = same
 
-  pub measure_done : (new : Option Shelf) (before now : ℕ) (r : Result Answer NoMemory) → new ≡ option_map (asks_all (take 5 (reads_of words))) shelf → now ≡ before
-      → IfOk r (AnswersNoise c (noise_words c.noise)) → IfOk r (λ a. IsDetermined (IsNoise (variances_of c.schema c.spine))) → IsPrepared words shelf new before now r
-  measure_done new before now (Ok a) asked same answers one = record {
-    suits = noise_suits a.cause a one answers;
+  noise_done : ((a : Answer) → IsDetermined (IsNoise (variances_of c.schema c.spine)) → made a → IsDone d words shelf a) → (new : Option Shelf) (before now : ℕ) (r : Result Answer NoMemory)
+      → new ≡ option_map (asks_all (take 5 (reads_of words))) shelf → now ≡ before → IfOk r (λ a. AnswersBy (made a) a.cause c (noise_words c.noise) a) → IfOk r (λ a. IsDetermined (IsNoise (variances_of c.schema c.spine)))
+      → IsPrepared words shelf new before now r
+  noise_done done new before now (Ok a) asked same answers one = record {
+    suits = noise_suits a.cause a one (done a one) answers;
     asked = noise_asks a.cause a new answers asked;
     cause = noise_counts a.cause a before now answers same;
   }
-  measure_done new before now (Err m) asked same answers one = record {
+  noise_done done new before now (Err m) asked same answers one = record {
     suits = tt;
-    asked = prefix_of (reads_of words) 5 shelf new (five_read words is) asked;
+    asked = prefix_of (reads_of words) 5 shelf new (five_read d draws words is) asked;
     cause = omega arith;
   }
+
+module _ (words : List (List ℕ)) (shelf : Option Shelf) (v : Survey) (c : Counted) (counted : IsCounted v c) (gives : Gathers words 5 (survey_from words) shelf (Ok v)) where
+  pub measure_done : command_of words ≡ Some command.Measure → (new : Option Shelf) (before now : ℕ) (r : Result Answer NoMemory) → new ≡ option_map (asks_all (take 5 (reads_of words))) shelf → now ≡ before
+      → IfOk r (AnswersNoise MeasuresWith c (noise_words c.noise)) → IfOk r (λ a. IsDetermined (IsNoise (variances_of c.schema c.spine))) → IsPrepared words shelf new before now r
+  measure_done is new before now r asked same answers one =
+      noise_done command.Measure tt words is shelf v c counted gives (MeasuresWith c (noise_words c.noise))
+      (λ a o made. (v, survey_is command.Measure tt words is shelf v c counted gives (MeasuresWith c (noise_words c.noise)) o, measures v c counted a made)) new before now r asked same answers one
+
+  pub run_done : command_of words ≡ Some command.Run → (new : Option Shelf) (before now : ℕ) (r : Result Answer NoMemory) → new ≡ option_map (asks_all (take 5 (reads_of words))) shelf → now ≡ before
+      → IfOk r (AnswersNoise RunsWith c (noise_words c.noise)) → IfOk r (λ a. IsDetermined (IsNoise (variances_of c.schema c.spine))) → IsPrepared words shelf new before now r
+  run_done is new before now r asked same answers one =
+      noise_done command.Run tt words is shelf v c counted gives (RunsWith c (noise_words c.noise))
+      (λ a o made. (v, survey_is command.Run tt words is shelf v c counted gives (RunsWith c (noise_words c.noise)) o, runs v c counted a made)) new before now r asked same answers one

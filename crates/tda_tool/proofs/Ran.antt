@@ -1,36 +1,42 @@
 -- What a run leaves tells what the top call answers.
-use Rattle.std.proofs.Common.{◌≡◌, ◌≢◌, ◌∙◌, ◌++◌, ◌∷◌, ◌+◌, ◌⊎◌, [], List, ℕ, ℤ, length, take, refl, sym, ap, subst, Option, Some, None, IfSome, option_map, inl, inr, Result, Ok, Err, slice_index_or, arith}
+use Rattle.std.proofs.Common.{◌≡◌, ◌≢◌, ◌∙◌, ◌++◌, ◌∷◌, ◌+◌, ◌-◌, ◌⊎◌, [], List, ℕ, ℤ, length, take, refl, sym, ap, subst, Option, Some, None, IfSome, option_map, inl, inr, Result, Ok, Err, slice_index_or, arith}
 use Rattle.std.specs.Result.{IfOk}
 use Rattle.std.proofs.lemmas.List.{length-map}
 use Rattle.tda_io.specs.Due.{◌>>=◌}
-use Rattle.tda_io.specs.Outside.{Shelf, Tray}
+use Rattle.tda_io.specs.Outside.{Shelf, Tray, CountsOut}
 use Rattle.tda_model.specs.TablesText.{tables_text}
 use Rattle.tda_invar.specs.Totals.{totals_text}
 use Rattle.tda_ledger.specs.LedgerText.{ledger_text}
 use Rattle.tda_places.specs.Measurements.{measurements_text}
 use Rattle.tda_io.specs.declared.outside.OutFault.{OutFault}
 use Rattle.tda_io.specs.declared.outside.OutFault.TheVariants as fault_out
-use Rattle.tda_measure.specs.Noise.{variances_of, IsNoise, IsDetermined}
+use Rattle.tda_measure.specs.Noise.{variances_of, IsNoise, IsDetermined, NoiseStops}
 use Rattle.tda_measure.specs.declared.stop.MeasureStop.{MeasureStop}
 use Rattle.tda_model.specs.Deviation.{square}
 use Rattle.tda_model.specs.Tables.{Tables}
 use Rattle.tda_model.specs.Release.{Inputs, IsRelease}
-use Rattle.tda_tool.specs.Fitting.{fitted_ending, pricing_text}
-use Rattle.tda_tool.specs.Measuring.{Survey, state_counts, noise_ending, stop_ending, measured_ending, MeasureEnds}
+use Rattle.tda_tool.specs.Fitting.{fitted_ending}
+use Rattle.tda_release.specs.Certified.{pricing_text}
+use Rattle.tda_inputs.specs.Survey.{Survey}
+use Rattle.tda_tool.specs.Measuring.{Draws, WordsSuffice, state_counts, noise_ending, stop_ending, measured_ending, MeasureEnds}
 use Rattle.tda_command.specs.Words.{command_of, form_in, reads_of, writes_of, read_names, write_names, pairs_after, values_in, dash}
-use Rattle.tda_tool.specs.Ending.{Ending, words_ending, refused_ending}
-use Rattle.tda_tool.specs.Due.{Given, Task, Fits, Measures, EndsBy, Due, IsDue, IsDueStatus, task_of, task_by, due_task, inputs_from, survey_from, given_by}
-use Rattle.tda_tool.specs.Outcome.{IsSettled, whole, asks_all, Leaves, LeavesAll, ReportsDue, FitWrote, MeasureWrote, NoiseStopped, FileRefused, ReadFailed, AsksPrefix, BeginsPrefix, BeginsWhenDue}
-use Rattle.tda_tool.specs.Files.{name_of, place_of_file, IsRead}
-use Rattle.tda_tool.specs.Answer.{status_by, Suits, SuitsBy, IsDone, HasInputs, HasSurvey, IsFitted, IsMeasured, StopsWith, RefusesFile, FailsAt, ReportsAlone, WritesNames, Asks, AsksBy, CountsBy, files_of, target_of, targets_of, status_of}
+use Rattle.tda_tool.specs.Running.{run_inputs, measured_by, ran_ending, EndsRun, RunEnds}
+use Rattle.tda_inputs.specs.Ending.{Ending, refused_ending}
+use Rattle.tda_tool.specs.Ending.{words_ending}
+use Rattle.tda_inputs.specs.Accepted.{Given, inputs_from, survey_from, given_by}
+use Rattle.tda_tool.specs.Due.{Task, Fits, Measures, Runs, EndsBy, Due, IsDue, IsDueStatus, task_of, task_by, due_task, Suffices, IsComplete}
+use Rattle.tda_tool.specs.Outcome.{IsSettled, whole, Leaves, LeavesAll, ReportsDue, FitWrote, MeasureWrote, RunWrote, NoiseStopped, FileRefused, ReadFailed, BeginsPrefix, BeginsWhenDue}
+use Rattle.tda_inputs.specs.Asked.{asks_all, AsksPrefix}
+use Rattle.tda_inputs.specs.Files.{name_of, place_of_file, IsRead}
+use Rattle.tda_tool.specs.Answer.{status_by, Suits, SuitsBy, IsDone, HasInputs, HasSurvey, IsFitted, IsMeasured, IsRun, StopsAs, RefusesFile, FailsAt, ReportsAlone, WritesNames, Asks, AsksBy, CountsBy, CountsRun, files_of, target_of, targets_of, status_of}
 use Rattle.tda_command.specs.declared.words.Command.{Command}
 use Rattle.tda_command.specs.declared.words.Command.TheVariants as command
-use Rattle.tda_tool.specs.declared.reading.File.{File}
+use Rattle.tda_inputs.specs.declared.reading.File.{File}
 use Rattle.tda_tool.specs.declared.answer.Answer.{Answer}
 use Rattle.tda_tool.specs.declared.answer.Cause.{Cause}
 use Rattle.tda_tool.specs.declared.answer.Cause.TheVariants as cause
 use Rattle.tda_tool.proofs.Begun.{begun_alone}
-use Rattle.tda_tool.proofs.Asked.{file_within, asks_whole, asks_first, asks_no_name}
+use Rattle.tda_inputs.proofs.Asked.{file_within, asks_whole, asks_first, asks_no_name}
 use Rattle.tda_tool.proofs.Outputs.{names_in, texts_in, files_are, written_outputs, targets_written, no_targets, report_alone}
 
 -- a run's answer, or why it failed
@@ -59,14 +65,22 @@ task_if words given o = elim o [ None ↦ Err words_ending | Some c ↦ task_of 
 abbrev to_fit : Result Inputs Ending → Result Task Ending
 to_fit r = r >>= (λ i. Ok (Fits i))
 
-abbrev to_measure : Result Survey Ending → Result Task Ending
-to_measure r = r >>= (λ v. Ok (Measures v))
+-- what a command that draws is to do with a survey
+abbrev pub drawing : (c : Command) → Draws c → Survey → Task
+drawing command.Measure draws v = Measures v
+drawing command.Run draws v = Runs v
+drawing command.Fit draws v = absurd draws
+
+abbrev to_draw : (c : Command) → Draws c → Result Survey Ending → Result Task Ending
+to_draw c draws r = r >>= (λ v. Ok (drawing c draws v))
 
 pub fit_task : (words : List (List ℕ)) (given : Given) (r : Result Inputs Ending) → command_of words ≡ Some command.Fit → inputs_from given ≡ r → task_by words given ≡ to_fit r
 fit_task words given r is held = ap (task_if words given) is ∙ ap to_fit held
 
-pub measure_task : (words : List (List ℕ)) (given : Given) (r : Result Survey Ending) → command_of words ≡ Some command.Measure → survey_from words given ≡ r → task_by words given ≡ to_measure r
-measure_task words given r is held = ap (task_if words given) is ∙ ap to_measure held
+pub draw_task : (c : Command) (draws : Draws c) (words : List (List ℕ)) (given : Given) (r : Result Survey Ending) → command_of words ≡ Some c → survey_from words given ≡ r → task_by words given ≡ to_draw c draws r
+draw_task command.Measure draws words given r is held = ap (task_if words given) is ∙ ap (to_draw command.Measure draws) held
+draw_task command.Run draws words given r is held = ap (task_if words given) is ∙ ap (to_draw command.Run draws) held
+draw_task command.Fit draws words given r is held = absurd draws
 
 words_task : (words : List (List ℕ)) (given : Given) → command_of words ≡ None → task_by words given ≡ Err words_ending
 words_task words given is = ap (task_if words given) is
@@ -89,12 +103,49 @@ noise_alone v one noise rest is d h =
     let left : h.rest ≡ rest = one.rest v.words h.noise noise h.rest rest h.is is in
     h.ending ∙ ap (λ n. noise_ending v n h.rest) same ∙ ap (λ r. noise_ending v noise r) left
 
-survey_due : (words : List (List ℕ)) (s : Shelf) (v : Survey) → HasSurvey words (Some s) v → (noise : Result (List ℤ) MeasureStop) (rest : List ℕ)
+survey_due : (words : List (List ℕ)) (s : Shelf) (v : Survey) → HasSurvey command.Measure words (Some s) v → (noise : Result (List ℤ) MeasureStop) (rest : List ℕ)
     → IsNoise (variances_of v.schema v.spine) v.words noise rest → IsDue words s.holds (noise_ending v noise rest)
 survey_due words s v has noise rest is =
-    due_from words s.holds (Ok (Measures v)) _ (measure_task words (given_by words s.holds) (Ok v) has.is has.held)
+    due_from words s.holds (Ok (Measures v)) _ (draw_task command.Measure tt words (given_by words s.holds) (Ok v) has.is has.held)
     (record { noise = noise; rest = rest; is = is; ending = refl })
     (noise_alone v has.one noise rest is)
+
+-- ---- `run`: how it ends by what the noise on its words comes to
+
+ends_same : (v : Survey) → IsDetermined (IsNoise (variances_of v.schema v.spine)) → (noise : Result (List ℤ) MeasureStop) (rest : List ℕ)
+    → IsNoise (variances_of v.schema v.spine) v.words noise rest → (d : Ending) → RunEnds v d → EndsRun v noise rest d
+ends_same v one noise rest is d h =
+    let same : h.noise ≡ noise = one.value v.words h.noise noise h.rest rest h.is is in
+    let left : h.rest ≡ rest = one.rest v.words h.noise noise h.rest rest h.is is in
+    subst (λ r. EndsRun v noise r d) left (subst (λ n. EndsRun v n h.rest d) same h.ends)
+
+run_task : (words : List (List ℕ)) (s : Shelf) (v : Survey) → HasSurvey command.Run words (Some s) v → due_task words s.holds ≡ Ok (Runs v)
+run_task words s v has = draw_task command.Run tt words (given_by words s.holds) (Ok v) has.is has.held
+
+-- with any release over what was measured, always with status 0
+run_due : (words : List (List ℕ)) (s : Shelf) (v : Survey) → HasSurvey command.Run words (Some s) v → (noise : List ℤ) (rest : List ℕ)
+    → IsNoise (variances_of v.schema v.spine) v.words (Ok noise) rest → (x : Tables) → IsRelease square (run_inputs v (measured_by v noise)) x
+    → IsDue words s.holds (ran_ending v (measured_by v noise) (length v.words - length rest) x)
+run_due words s v has noise rest is x release =
+    let task = run_task words s v has in
+    let e = ran_ending v (measured_by v noise) (length v.words - length rest) x in
+    record {
+      due = subst (λ t. EndsBy t e) (sym task) (record { noise = Ok noise; rest = rest; is = is; ends = (x, release, refl) });
+      status = λ d h. let ends = ends_same v has.one (Ok noise) rest is d (subst (λ t. EndsBy t d) task h) in ap (λ y. y.status) ends.2;
+      report = λ some d h. absurd (some refl);
+    }
+
+-- or at the place where the noise stops
+run_stops : (words : List (List ℕ)) (s : Shelf) (v : Survey) → HasSurvey command.Run words (Some s) v → (why : MeasureStop) (rest : List ℕ)
+    → IsNoise (variances_of v.schema v.spine) v.words (Err why) rest → IsDue words s.holds (stop_ending v.schema v.spine why)
+run_stops words s v has why rest is =
+    due_from words s.holds (Ok (Runs v)) _ (run_task words s v has) (record { noise = Err why; rest = rest; is = is; ends = refl }) (λ d h. ends_same v has.one (Err why) rest is d h)
+
+stops_due : (c : Command) → Draws c → (words : List (List ℕ)) (s : Shelf) (v : Survey) → HasSurvey c words (Some s) v → (why : MeasureStop) (rest : List ℕ)
+    → NoiseStops (variances_of v.schema v.spine) v.words why rest → IsDue words s.holds (stop_ending v.schema v.spine why)
+stops_due command.Measure draws words s v has why rest is = survey_due words s v has (Err why) rest is
+stops_due command.Run draws words s v has why rest is = run_stops words s v has why rest is
+stops_due command.Fit draws words s v has why rest is = absurd draws
 
 -- the ending that is due where the answer has this status, and the report alone but for status 0
 record DueAnswer (words : List (List ℕ)) (holds : List ℕ → Option (List ℕ)) (status : ℕ) (a : Answer) : Type 0 where
@@ -117,12 +168,24 @@ done_due command.Measure words s a done = record {
   alone = λ some. absurd (some refl);
 }
 
-stop_due : (words : List (List ℕ)) (s : Shelf) (status : ℕ) (v : Survey) (a : Answer) → HasSurvey words (Some s) v → StopsWith v.schema v.spine v.words status a → DueAnswer words s.holds status a
-stop_due words s status v a has stops = record {
-  ending = stop_ending v.schema v.spine stops.why;
-  due = survey_due words s v has (Err stops.why) stops.rest stops.stops;
-  status_is = stops.ends;
-  alone = λ some. stops.alone;
+done_due command.Run words s a done =
+    let v = done.0 in
+    let made = done.2 in
+    let drawn = made.measured.measured in
+    let release = subst (λ m. IsRelease square (run_inputs v m) made.tells.tables) drawn.sums made.tells.certified.release in
+    record {
+      ending = ran_ending v (measured_by v drawn.noise) (length v.words - length made.measured.rest) made.tells.tables;
+      due = run_due words s v done.1 drawn.noise made.measured.rest drawn.drawn made.tells.tables release;
+      status_is = refl;
+      alone = λ some. absurd (some refl);
+    }
+
+stop_due : (words : List (List ℕ)) (s : Shelf) (status : ℕ) (a : Answer) → StopsAs status words (Some s) a → DueAnswer words s.holds status a
+stop_due words s status a is = record {
+  ending = stop_ending is.survey.schema is.survey.spine is.stops.why;
+  due = stops_due is.command is.draws words s is.survey is.has is.stops.why is.stops.rest is.stops.stops;
+  status_is = is.stops.ends;
+  alone = λ some. is.stops.alone;
 }
 
 suits_due : (k : Cause) (words : List (List ℕ)) (s : Shelf) (a : Answer) → SuitsBy k words (Some s) a → status_by k ≢ 4 → DueAnswer words s.holds (status_by k) a
@@ -140,8 +203,8 @@ suits_due (cause.Refused f) words s a suits calm = record {
   alone = λ some. suits.alone;
 }
 suits_due (cause.Read f) words s a suits calm = absurd (calm refl)
-suits_due cause.OutOfWords words s a suits calm = stop_due words s 6 suits.0 a suits.1 suits.2
-suits_due cause.TooLarge words s a suits calm = stop_due words s 7 suits.0 a suits.1 suits.2
+suits_due cause.OutOfWords words s a suits calm = stop_due words s 6 a suits
+suits_due cause.TooLarge words s a suits calm = stop_due words s 7 a suits
 
 pub settled : (words : List (List ℕ)) (shelf : Option Shelf) (r : Run) → IfOk r (Suits words shelf) → IsSettled (status_of r) → IfSome shelf (λ s. IsDueStatus words s.holds (status_of r))
 settled words None r suits calm = tt
@@ -169,14 +232,15 @@ reads_for words o is = ap (λ x. (form_in words x).reads) is
 done_names : (c : Command) (words : List (List ℕ)) (shelf : Option Shelf) (a : Answer) → IsDone c words shelf a → names_in a.outputs.items ≡ write_names words
 done_names command.Fit words shelf a done = done.2.outputs.names_are ∙ sym (writes_for words command.Fit done.1.0)
 done_names command.Measure words shelf a done = done.2.tells.outputs.names_are ∙ sym (writes_for words command.Measure done.1.is)
+done_names command.Run words shelf a done = done.2.tells.outputs.names_are ∙ sym (writes_for words command.Run done.1.is)
 
 pub writes_names_by : (k : Cause) (words : List (List ℕ)) (shelf : Option Shelf) (a : Answer) → SuitsBy k words shelf a → WritesNames words a
 writes_names_by cause.Done words shelf a suits = inr (done_names suits.0 words shelf a suits.1)
 writes_names_by cause.Words words shelf a suits = inl suits.1.outputs
 writes_names_by (cause.Refused f) words shelf a suits = inl suits.alone.outputs
 writes_names_by (cause.Read f) words shelf a suits = inl suits.alone.outputs
-writes_names_by cause.OutOfWords words shelf a suits = inl suits.2.alone.outputs
-writes_names_by cause.TooLarge words shelf a suits = inl suits.2.alone.outputs
+writes_names_by cause.OutOfWords words shelf a suits = inl suits.stops.alone.outputs
+writes_names_by cause.TooLarge words shelf a suits = inl suits.stops.alone.outputs
 
 -- an answer's outputs are the first ones of the command
 pub begun_by : (words : List (List ℕ)) (a : Answer) (old new : Option Tray) → WritesNames words a → BeginsPrefix (targets_of words a) old new → BeginsPrefix (writes_of words) old new
@@ -197,8 +261,8 @@ begun_when_due cause.Done words shelf a before now old new suits count begun = i
 begun_when_due cause.Words words shelf a before now old new suits count begun = inl (alone_begun words _ a old new suits.1 begun)
 begun_when_due (cause.Refused f) words shelf a before now old new suits count begun = inl (alone_begun words _ a old new suits.alone begun)
 begun_when_due (cause.Read f) words shelf a before now old new suits count begun = inl (alone_begun words _ a old new suits.alone begun)
-begun_when_due cause.OutOfWords words shelf a before now old new suits count begun = inl (alone_begun words _ a old new suits.2.alone begun)
-begun_when_due cause.TooLarge words shelf a before now old new suits count begun = inl (alone_begun words _ a old new suits.2.alone begun)
+begun_when_due cause.OutOfWords words shelf a before now old new suits count begun = inl (alone_begun words _ a old new suits.stops.alone begun)
+begun_when_due cause.TooLarge words shelf a before now old new suits count begun = inl (alone_begun words _ a old new suits.stops.alone begun)
 
 -- ---- what a run with status 0 wrote
 
@@ -221,7 +285,7 @@ wrote_tables words s a old new i has fitted left = record {
       (subst (λ files. Leaves files old new) (files_are words _ _ _ a fitted.outputs fitted.report) left);
 }
 
-wrote_measured : (words : List (List ℕ)) (s : Shelf) (a : Answer) (old new : Option Tray) (v : Survey) → HasSurvey words (Some s) v → IsMeasured v a → Leaves (files_of words a) old new
+wrote_measured : (words : List (List ℕ)) (s : Shelf) (a : Answer) (old new : Option Tray) (v : Survey) → HasSurvey command.Measure words (Some s) v → IsMeasured v a → Leaves (files_of words a) old new
     → MeasureWrote words s.holds old new
 wrote_measured words s a old new v has made left = record {
   survey = v;
@@ -239,15 +303,46 @@ wrote_measured words s a old new v has made left = record {
       (subst (λ files. Leaves files old new) (files_are words _ _ _ a made.tells.outputs made.tells.report) left);
 }
 
+wrote_run : (words : List (List ℕ)) (s : Shelf) (a : Answer) (old new : Option Tray) (v : Survey) → HasSurvey command.Run words (Some s) v → IsRun v a → Leaves (files_of words a) old new
+    → RunWrote words s.holds old new
+wrote_run words s a old new v has made left = record {
+  survey = v;
+  accepted = has.held;
+  measurements = made.measurements;
+  taken = made.taken;
+  measured = made.measured;
+  within = made.tells.within;
+  tables = made.tells.tables;
+  price = made.tells.price;
+  certified = made.tells.certified;
+  written = subst (λ paths. Leaves
+      (whole (slice_index_or paths 0 []) (measurements_text v.schema v.spine made.measurements)
+      ∷ whole (slice_index_or paths 1 []) (totals_text v.spine (state_counts v.spine v.records))
+      ∷ whole (slice_index_or paths 2 []) (ledger_text v.schema)
+      ∷ whole (slice_index_or paths 3 []) (tables_text v.schema v.spine made.tells.tables)
+      ∷ whole (slice_index_or paths 4 []) (pricing_text (run_inputs v made.measurements) made.tells.price)
+      ∷ whole dash (ran_ending v made.measurements made.taken made.tells.tables).report ∷ []) old new)
+      (paths_for words command.Run has.is)
+      (subst (λ files. Leaves files old new) (files_are words _ _ _ a made.tells.outputs made.tells.report) left);
+}
+
 done_fit : (c : Command) (words : List (List ℕ)) (s : Shelf) (a : Answer) (old new : Option Tray) → IsDone c words (Some s) a → Leaves (files_of words a) old new → command_of words ≡ Some command.Fit
     → FitWrote words s.holds old new
 done_fit command.Fit words s a old new done left is = wrote_tables words s a old new done.0 done.1 done.2 left
 done_fit command.Measure words s a old new done left is = cc (is, done.1.is)
+done_fit command.Run words s a old new done left is = cc (is, done.1.is)
 
 done_measure : (c : Command) (words : List (List ℕ)) (s : Shelf) (a : Answer) (old new : Option Tray) → IsDone c words (Some s) a → Leaves (files_of words a) old new → command_of words ≡ Some command.Measure
     → MeasureWrote words s.holds old new
 done_measure command.Fit words s a old new done left is = cc (is, done.1.0)
 done_measure command.Measure words s a old new done left is = wrote_measured words s a old new done.0 done.1 done.2 left
+done_measure command.Run words s a old new done left is = cc (is, done.1.is)
+
+done_run : (c : Command) (words : List (List ℕ)) (s : Shelf) (a : Answer) (old new : Option Tray) → IsDone c words (Some s) a → Leaves (files_of words a) old new → command_of words ≡ Some command.Run
+    → RunWrote words s.holds old new
+done_run command.Fit words s a old new done left is = cc (is, done.1.0)
+done_run command.Measure words s a old new done left is = cc (is, done.1.is)
+done_run command.Run words s a old new done left is = wrote_run words s a old new done.0 done.1 done.2 left
 
 fit_wrote_by : (k : Cause) (words : List (List ℕ)) (s : Shelf) (a : Answer) (old new : Option Tray) → SuitsBy k words (Some s) a → Leaves (files_of words a) old new → status_by k ≡ 0
     → command_of words ≡ Some command.Fit → FitWrote words s.holds old new
@@ -267,6 +362,15 @@ measure_wrote_by (cause.Read f) words s a old new suits left zero is = cc zero
 measure_wrote_by cause.OutOfWords words s a old new suits left zero is = cc zero
 measure_wrote_by cause.TooLarge words s a old new suits left zero is = cc zero
 
+run_wrote_by : (k : Cause) (words : List (List ℕ)) (s : Shelf) (a : Answer) (old new : Option Tray) → SuitsBy k words (Some s) a → Leaves (files_of words a) old new → status_by k ≡ 0
+    → command_of words ≡ Some command.Run → RunWrote words s.holds old new
+run_wrote_by cause.Done words s a old new suits left zero is = done_run suits.0 words s a old new suits.1 left is
+run_wrote_by cause.Words words s a old new suits left zero is = cc zero
+run_wrote_by (cause.Refused f) words s a old new suits left zero is = cc zero
+run_wrote_by (cause.Read f) words s a old new suits left zero is = cc zero
+run_wrote_by cause.OutOfWords words s a old new suits left zero is = cc zero
+run_wrote_by cause.TooLarge words s a old new suits left zero is = cc zero
+
 pub fit_wrote : (words : List (List ℕ)) (shelf : Option Shelf) (r : Run) (old new : Option Tray) → IfOk r (Suits words shelf) → IfOk r (λ a. Leaves (files_of words a) old new)
     → status_of r ≡ 0 → command_of words ≡ Some command.Fit → IfSome shelf (λ s. FitWrote words s.holds old new)
 fit_wrote words None r old new suits left zero is = tt
@@ -280,6 +384,13 @@ measure_wrote words None r old new suits left zero is = tt
 measure_wrote words (Some s) (Ok a) old new suits left zero is = measure_wrote_by a.cause words s a old new suits left zero is
 measure_wrote words (Some s) (Err fault_out.Failed) old new suits left zero is = cc zero
 measure_wrote words (Some s) (Err fault_out.NoMemory) old new suits left zero is = cc zero
+
+pub run_wrote : (words : List (List ℕ)) (shelf : Option Shelf) (r : Run) (old new : Option Tray) → IfOk r (Suits words shelf) → IfOk r (λ a. Leaves (files_of words a) old new)
+    → status_of r ≡ 0 → command_of words ≡ Some command.Run → IfSome shelf (λ s. RunWrote words s.holds old new)
+run_wrote words None r old new suits left zero is = tt
+run_wrote words (Some s) (Ok a) old new suits left zero is = run_wrote_by a.cause words s a old new suits left zero is
+run_wrote words (Some s) (Err fault_out.Failed) old new suits left zero is = cc zero
+run_wrote words (Some s) (Err fault_out.NoMemory) old new suits left zero is = cc zero
 
 wrote_all : (words : List (List ℕ)) (a : Answer) (old new : Option Tray) → names_in a.outputs.items ≡ write_names words → Leaves (files_of words a) old new → LeavesAll (writes_of words) old new
 wrote_all words a old new names left = record {
@@ -358,18 +469,19 @@ failed_file words (Ok a) shelf shelf_new old new suits asked left four = failed_
 failed_file words (Err fault_out.Failed) shelf shelf_new old new suits asked left four = cc four
 failed_file words (Err fault_out.NoMemory) shelf shelf_new old new suits asked left four = cc four
 
-noise_stopped : (words : List (List ℕ)) (status : ℕ) (shelf shelf_new : Option Shelf) (a : Answer) (old new : Option Tray) (v : Survey) → HasSurvey words shelf v
-    → StopsWith v.schema v.spine v.words status a → shelf_new ≡ option_map (asks_all (reads_of words)) shelf → Leaves (files_of words a) old new → NoiseStopped words status shelf shelf_new old new
-noise_stopped words status shelf shelf_new a old new v has stops asked left = record {
-  command = has.is;
+noise_stopped : (words : List (List ℕ)) (status : ℕ) (shelf shelf_new : Option Shelf) (a : Answer) (old new : Option Tray) → StopsAs status words shelf a → shelf_new ≡ option_map (asks_all (reads_of words)) shelf → Leaves (files_of words a) old new → NoiseStopped words status shelf shelf_new old new
+noise_stopped words status shelf shelf_new a old new stopping asked left = record {
+  command = stopping.command;
+  is = stopping.has.is;
+  draws = stopping.draws;
   asked = asked;
-  survey = v;
-  accepted = has.held;
-  why = stops.why;
-  rest = stops.rest;
-  stops = stops.stops;
-  ends = stops.ends;
-  written = report_alone words _ a old new stops.alone left;
+  survey = stopping.survey;
+  accepted = stopping.has.held;
+  why = stopping.stops.why;
+  rest = stopping.stops.rest;
+  stops = stopping.stops.stops;
+  ends = stopping.stops.ends;
+  written = report_alone words _ a old new stopping.stops.alone left;
 }
 
 stopped_by : (k : Cause) (words : List (List ℕ)) (shelf shelf_new : Option Shelf) (a : Answer) (old new : Option Tray) → SuitsBy k words shelf a → AsksBy k words shelf shelf_new
@@ -382,8 +494,8 @@ stopped_by (cause.Refused f) words shelf shelf_new a old new suits asked left (i
 stopped_by (cause.Refused f) words shelf shelf_new a old new suits asked left (inr e) = cc e
 stopped_by (cause.Read f) words shelf shelf_new a old new suits asked left (inl e) = cc e
 stopped_by (cause.Read f) words shelf shelf_new a old new suits asked left (inr e) = cc e
-stopped_by cause.OutOfWords words shelf shelf_new a old new suits asked left e = noise_stopped words 6 shelf shelf_new a old new suits.0 suits.1 suits.2 asked left
-stopped_by cause.TooLarge words shelf shelf_new a old new suits asked left e = noise_stopped words 7 shelf shelf_new a old new suits.0 suits.1 suits.2 asked left
+stopped_by cause.OutOfWords words shelf shelf_new a old new suits asked left e = noise_stopped words 6 shelf shelf_new a old new suits asked left
+stopped_by cause.TooLarge words shelf shelf_new a old new suits asked left e = noise_stopped words 7 shelf shelf_new a old new suits asked left
 
 not_five_stops : ¬ ((◌≡◌ {A = ℕ} 5 6) ⊎ (◌≡◌ {A = ℕ} 5 7))
 not_five_stops (inl e) = cc e
@@ -416,3 +528,38 @@ asks_by (cause.Refused f) words shelf old new a suits asked = asks_up_to words f
 asks_by (cause.Read f) words shelf old new a suits asked = asks_up_to words f old new suits.reads asked
 asks_by cause.OutOfWords words shelf old new a suits asked = asks_whole _ old new asked
 asks_by cause.TooLarge words shelf old new a suits asked = asks_whole _ old new asked
+
+-- ---- right words, accepted files and words that suffice
+
+-- the task of a command that draws has words that suffice exactly where its survey has
+drawing_suffices : (c : Command) (draws : Draws c) (v : Survey) → Suffices (drawing c draws v) → WordsSuffice v
+drawing_suffices command.Measure draws v enough = enough
+drawing_suffices command.Run draws v enough = enough
+drawing_suffices command.Fit draws v enough = absurd draws
+
+-- then the noise doesn't stop
+never_stops : (status : ℕ) (words : List (List ℕ)) (s : Shelf) (a : Answer) → IsComplete words s.holds → StopsAs status words (Some s) a → ⊥
+never_stops status words s a complete is =
+    let v = is.survey in
+    let task = draw_task is.command is.draws words (given_by words s.holds) (Ok v) is.has.is is.has.held in
+    let same : complete.task ≡ drawing is.command is.draws v = cc (task, complete.accepted) in
+    let enough = drawing_suffices is.command is.draws v (subst Suffices same complete.enough) in
+    let noise : Result (List ℤ) MeasureStop = Ok enough.0 in
+    let stop : Result (List ℤ) MeasureStop = Err is.stops.why in
+    let clash : noise ≡ stop = is.has.one.value v.words noise stop enough.1 is.stops.rest enough.2 is.stops.stops in
+    cc clash
+
+complete_by : (k : Cause) (words : List (List ℕ)) (s : Shelf) (a : Answer) (before now : ℕ) → SuitsBy k words (Some s) a → CountsBy k before now → now ≡ before → IsComplete words s.holds → status_by k ≡ 0
+complete_by cause.Done words s a before now suits count same complete = refl
+complete_by cause.Words words s a before now suits count same complete = cc (words_task words (given_by words s.holds) suits.0, complete.accepted)
+complete_by (cause.Refused f) words s a before now suits count same complete = cc (suits.due, complete.accepted)
+complete_by (cause.Read f) words s a before now suits count same complete = absurd (omega arith)
+complete_by cause.OutOfWords words s a before now suits count same complete = absurd (never_stops 6 words s a complete suits)
+complete_by cause.TooLarge words s a before now suits count same complete = absurd (never_stops 7 words s a complete suits)
+
+pub complete : (words : List (List ℕ)) (shelf : Option Shelf) (r : Run) (before now : ℕ) (outs_before outs_now : ℕ) → IfOk r (Suits words shelf) → CountsRun before now r → CountsOut r outs_before outs_now
+    → now ≡ before → outs_now ≡ outs_before → IfSome shelf (λ s. IsComplete words s.holds → (status_of r ≡ 0) ⊎ (status_of r ≡ 8))
+complete words None r before now outs_before outs_now suits count outs same outs_same = tt
+complete words (Some s) (Ok a) before now outs_before outs_now suits count outs same outs_same = λ is. inl (complete_by a.cause words s a before now suits count same is)
+complete words (Some s) (Err fault_out.Failed) before now outs_before outs_now suits count outs same outs_same = λ is. absurd (omega arith)
+complete words (Some s) (Err fault_out.NoMemory) before now outs_before outs_now suits count outs same outs_same = λ is. inr refl

@@ -1,5 +1,5 @@
 -- What is measured of counts is measured of the persons that were counted.
-use Rattle.std.proofs.Common.{◌≡◌, ◌∙◌, ◌++◌, ◌∷◌, ◌<◌, [], List, ℕ, ℤ, length, map, filter, Bool, true, refl, ap, subst, arith}
+use Rattle.std.proofs.Common.{◌≡◌, ◌∙◌, ◌++◌, ◌∷◌, ◌+◌, ◌<◌, ◌≤◌, [], List, ℕ, ℤ, length, map, filter, sum, Bool, true, refl, sym, ap, subst, arith}
 use Rattle.std.specs.List.{flat_map}
 use Rattle.tda_model.specs.Schema.{Query, Schema}
 use Rattle.tda_model.specs.Cells.{cell_count, is_possible, is_listed, all_cells, possible_cells}
@@ -8,16 +8,21 @@ use Rattle.tda_model.specs.Spine.{Spine, IsUnit, level_of, is_at, units_at, unit
 use Rattle.tda_model.specs.Tables.{Tables}
 use Rattle.tda_model.proofs.Sums.{Each, each_any, each_filter, each_weaker, each_range, sum_same}
 use Rattle.tda_schema.specs.Stated.{query_at}
-use Rattle.tda_out.specs.Counts.{count_at}
+use Rattle.tda_out.specs.Counts.{count_at, AreCountsOf}
+use Rattle.tda_spine.specs.Judged.{IsWithinLimits}
+use Rattle.tda_invar.specs.KindTable.{NumberTable}
+use Rattle.tda_invar.specs.Facilities.{IsTableOf}
+use Rattle.tda_model.specs.Bounds.{persons_limit}
 use Rattle.tda_out.proofs.RowLemmas.{count_of}
 use Rattle.tda_places.specs.Places.{place, query_places, query_numbers, unit_places, level_places, level_numbers, places_of}
 use Rattle.tda_places.specs.declared.place.Place.{Place}
 use Rattle.tda_hist.specs.TrueTable.{class_sum, true_count, state_persons}
-use Rattle.tda_measure.specs.Measured.{sum_at, sums_of, noisy, AreMeasured}
-use Rattle.tda_tool.specs.Measuring.{Survey, state_counts}
-use Rattle.tda_tool.specs.Reading.{noise_words, IsCounted}
-use Rattle.tda_tool.specs.Answer.{Tells, MeasuresWith, IsMeasured}
-use Rattle.tda_tool.specs.declared.counted.Counted.{Counted}
+use Rattle.tda_measure.specs.Measured.{sum_at, sums_of, noisy, AreMeasured, HaveFewPersons}
+use Rattle.tda_inputs.specs.Survey.{Survey}
+use Rattle.tda_tool.specs.Measuring.{state_counts, MeasuresSurvey}
+use Rattle.tda_inputs.specs.Reading.{noise_words, AreEnough, IsCounted}
+use Rattle.tda_tool.specs.Answer.{Tells, TellsRun, MeasuresWith, RunsWith, CanBeMeasured, CanBeRun, IsMeasured, IsRun}
+use Rattle.tda_inputs.specs.declared.counted.Counted.{Counted}
 use Rattle.tda_tool.specs.declared.answer.Answer.{Answer}
 
 each_append : {X : Type 0} (P : X → Type 0) (xs ys : List X) → Each P xs → Each P ys → Each P (xs ++ ys)
@@ -91,15 +96,51 @@ module _ (v : Survey) (c : Counted) (is : IsCounted v c) where
       (subst (λ sp. Tells v.schema sp m (state_persons c.schema c.spine (count_at c.tables)) taken a) is.spine
       (subst (λ s. Tells s c.spine m (state_persons c.schema c.spine (count_at c.tables)) taken a) is.schema tells))
 
-  pub measures : (a : Answer) → MeasuresWith c (noise_words c.noise) a → IsMeasured v a
-  measures a with_words = record {
-    measurements = with_words.measurements;
-    taken = with_words.taken;
-    measured = record {
-      rest = with_words.rest;
-      measured = subst (λ w. AreMeasured v.schema v.spine (true_count v.spine v.records) w with_words.measurements with_words.rest) is.words
-          (measured_of (noise_words c.noise) with_words.measurements with_words.rest with_words.measured);
-      taken_are = with_words.taken_are ∙ ap length is.words;
-    };
-    tells = tells_same with_words.measurements with_words.taken a with_words.tells;
+  measures_survey : (m : List ℤ) (rest : List ℕ) (taken : ℕ) → AreMeasured c.schema c.spine (count_at c.tables) (noise_words c.noise) m rest → taken + length rest ≡ length (noise_words c.noise) → MeasuresSurvey v m taken
+  measures_survey m rest taken measured taken_are = record {
+    rest = rest;
+    measured = subst (λ w. AreMeasured v.schema v.spine (true_count v.spine v.records) w m rest) is.words (measured_of (noise_words c.noise) m rest measured);
+    taken_are = taken_are ∙ ap length is.words;
   }
+
+  pub measures : (a : Answer) → MeasuresWith c (noise_words c.noise) a → IsMeasured v a
+  measures a made = record {
+    measurements = made.measurements;
+    taken = made.taken;
+    measured = measures_survey made.measurements made.rest made.taken made.measured made.taken_are;
+    tells = tells_same made.measurements made.taken a made.tells;
+  }
+
+  -- ---- and a release over it
+
+  run_same : (m : List ℤ) (taken : ℕ) (a : Answer) → TellsRun c.schema c.spine c.facilities (state_persons c.schema c.spine (count_at c.tables)) m taken a
+      → TellsRun v.schema v.spine v.facilities (state_counts v.spine v.records) m taken a
+  run_same m taken a tells =
+      subst (λ totals. TellsRun v.schema v.spine v.facilities totals m taken a) totals_same
+      (subst (λ f. TellsRun v.schema v.spine f (state_persons c.schema c.spine (count_at c.tables)) m taken a) is.facilities
+      (subst (λ sp. TellsRun v.schema sp c.facilities (state_persons c.schema c.spine (count_at c.tables)) m taken a) is.spine
+      (subst (λ s. TellsRun s c.spine c.facilities (state_persons c.schema c.spine (count_at c.tables)) m taken a) is.schema tells)))
+
+  pub runs : (a : Answer) → RunsWith c (noise_words c.noise) a → IsRun v a
+  runs a made = record {
+    measurements = made.measurements;
+    taken = made.taken;
+    measured = measures_survey made.measurements made.rest made.taken made.measured made.taken_are;
+    tells = run_same made.measurements made.taken a made.tells;
+  }
+
+  -- ---- what is counted can be measured, and tables can be made from that
+
+  pub can_be_measured : CanBeMeasured c
+  can_be_measured =
+      let P : Schema → Spine → Type 0 = λ s sp. (sp.depth ≡ length s.levels) × AreCountsOf s sp c.tables × HaveFewPersons s sp (count_at c.tables) × (sum (state_persons s sp (count_at c.tables)) ≤ persons_limit) in
+      let all : P v.schema v.spine = (is.limits.depth, is.tables.sized, is.tables.few, is.tables.few_in_states) in
+      let same = subst (λ s. P s c.spine) (sym is.schema) (subst (λ sp. P v.schema sp) (sym is.spine) all) in
+      record { belong = same.0; sized = same.1; few = same.2; few_in_states = same.3; noise = is.noise }
+
+  pub can_be_run : CanBeRun c
+  can_be_run =
+      let P : Schema → Spine → NumberTable → Type 0 = λ s sp f. IsWithinLimits s sp × IsTableOf s sp f × AreEnough s sp f c.tables in
+      let all : P v.schema v.spine v.facilities = (is.limits, is.table, is.enough) in
+      let same = subst (λ s. P s c.spine c.facilities) (sym is.schema) (subst (λ sp. P v.schema sp c.facilities) (sym is.spine) (subst (λ f. P v.schema v.spine f) (sym is.facilities) all)) in
+      record { measured = can_be_measured; limits = same.0; table = same.1; enough = same.2 }

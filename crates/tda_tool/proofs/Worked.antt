@@ -4,7 +4,8 @@ use Rattle.std.specs.Fmt.{digits}
 use Rattle.tda_model.specs.Schema.{Schema}
 use Rattle.tda_model.specs.Spine.{Spine}
 use Rattle.tda_command.specs.Words.{command_of, value_of, reads_of, writes_of}
-use Rattle.tda_tool.specs.Ending.{words_ending, read_ending}
+use Rattle.tda_tool.specs.Ending.{words_ending}
+use Rattle.tda_inputs.specs.Ending.{read_ending}
 use Rattle.tda_tool.specs.Due.{due_task}
 use Rattle.tda_refusal.specs.Refusal.{plain_text, named_text}
 use Rattle.tda_refusal.specs.declared.text.Plain.TheVariants as plain

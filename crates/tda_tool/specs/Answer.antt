@@ -1,5 +1,5 @@
 -- What an answer says, which files it leaves, and when it is due.
-use Rattle.std.specs.Prelude.{◌≡◌, ◌⊎◌, ◌<◌, ◌≤◌, ℕ, ℤ, ◌+◌, codes, List, [], ◌∷◌, ◌++◌, length, map, sum, take, Option, Some, None, IfSome, option_map, Result, Ok, Err}
+use Rattle.std.specs.Prelude.{◌≡◌, ◌≢◌, ◌⊎◌, ◌<◌, ◌≤◌, ℕ, ℤ, ◌+◌, codes, List, [], ◌∷◌, ◌++◌, length, map, sum, take, Option, Some, None, IfSome, option_map, Result, Ok, Err}
 use Rattle.tda_io.specs.Outside.{Shelf, Written}
 use Rattle.tda_io.specs.declared.outside.NoMemory.{NoMemory}
 use Rattle.tda_io.specs.declared.outside.OutFault.{OutFault}
@@ -13,28 +13,40 @@ use Rattle.tda_frac.specs.Fraction.{IsAtMost}
 use Rattle.tda_schema.specs.Shares.{frac_of, spent_of}
 use Rattle.tda_invar.specs.Totals.{totals_text}
 use Rattle.tda_ledger.specs.LedgerText.{ledger_text}
-use Rattle.tda_places.specs.Measurements.{measurements_text}
+use Rattle.tda_places.specs.Measurements.{measurements_text, AreMeasurementsOf}
+use Rattle.tda_places.specs.Places.{places_of}
+use Rattle.tda_spine.specs.Judged.{IsWithinLimits}
+use Rattle.tda_invar.specs.KindTable.{NumberTable}
+use Rattle.tda_invar.specs.Known.{known}
+use Rattle.tda_invar.specs.Facilities.{IsTableOf}
 use Rattle.tda_out.specs.Counts.{count_at, AreCountsOf}
 use Rattle.tda_hist.specs.TrueTable.{state_persons}
 use Rattle.tda_measure.specs.Measured.{AreMeasured, HaveFewPersons}
 use Rattle.tda_measure.specs.Noise.{variances_of, IsDetermined, IsNoise, NoiseStops}
 use Rattle.tda_measure.specs.declared.stop.MeasureStop.{MeasureStop}
+use Rattle.tda_measure.specs.declared.stop.MeasureStop.TheVariants as draw
 use Rattle.tda_model.specs.Release.{Inputs}
 use Rattle.tda_prices.specs.Items.{Pricing}
-use Rattle.tda_tool.specs.Fitting.{IsCertifiedRelease, pricing_text, fitted_ending}
-use Rattle.tda_tool.specs.Measuring.{Survey, state_counts, stop_ending, measured_ending, MeasuresSurvey}
+use Rattle.tda_release.specs.Certified.{IsCertifiedRelease, total_deviation, pricing_text}
+use Rattle.tda_tool.specs.Fitting.{fitted_ending}
+use Rattle.tda_inputs.specs.Survey.{Survey}
+use Rattle.tda_tool.specs.Measuring.{Draws, state_counts, stop_ending, measured_ending, MeasuresSurvey}
 use Rattle.tda_command.specs.Words.{command_of, pairs_after, value_or_empty, reads_of, write_names, dash}
-use Rattle.tda_tool.specs.Ending.{Ending, words_ending, refused_ending, read_ending}
-use Rattle.tda_tool.specs.Due.{inputs_from, survey_from, given_by, failing_at, task_by, due_task}
-use Rattle.tda_tool.specs.Outcome.{whole, asks_all, AsksPrefix}
-use Rattle.tda_tool.specs.Files.{name_of, place_of_file, IsRead, IsFaultOf}
-use Rattle.tda_tool.specs.Reading.{IsSource}
+use Rattle.tda_inputs.specs.Ending.{Ending, refused_ending, read_ending}
+use Rattle.tda_tool.specs.Ending.{words_ending, run_ending}
+use Rattle.tda_inputs.specs.Accepted.{inputs_by, inputs_from, survey_from, given_by, failing_at}
+use Rattle.tda_tool.specs.Due.{task_by, due_task}
+use Rattle.tda_tool.specs.Outcome.{whole}
+use Rattle.tda_inputs.specs.Asked.{asks_all, AsksPrefix}
+use Rattle.tda_inputs.specs.Files.{name_of, place_of_file, IsRead, IsFaultOf}
+use Rattle.tda_inputs.specs.Reading.{IsSource, AreEnough}
 use Rattle.tda_command.specs.declared.words.Command.{Command}
 use Rattle.tda_command.specs.declared.words.Command.TheVariants as command
-use Rattle.tda_tool.specs.declared.reading.File.{File}
-use Rattle.tda_tool.specs.declared.reading.Stop.{Stop}
-use Rattle.tda_tool.specs.declared.reading.Stop.TheVariants as stop
-use Rattle.tda_tool.specs.declared.counted.Counted.{Counted}
+use Rattle.tda_inputs.specs.declared.reading.File.{File}
+use Rattle.tda_inputs.specs.declared.reading.Stop.{Stop}
+use Rattle.tda_inputs.specs.declared.reading.Stop.TheVariants as stop
+use Rattle.tda_inputs.specs.declared.counted.Counted.{Counted}
+use Rattle.tda_tool.specs.declared.draw.Drawn.{Drawn}
 use Rattle.tda_tool.specs.declared.answer.Cause.{Cause}
 use Rattle.tda_tool.specs.declared.answer.Cause.TheVariants as cause
 use Rattle.tda_tool.specs.declared.answer.Output.{Output}
@@ -72,10 +84,10 @@ pub record IsOutput (name text : List ℕ) (o : Output) : Type 0 where
   pub name_is : o.name.now ≡ name
   pub text_is : o.text.items ≡ text
 
--- the outputs have these names, and these texts
-pub record AreOutputs (names texts : List (List ℕ)) (a : Answer) : Type 0 where
-  pub names_are : map (λ o. o.name.now) a.outputs.items ≡ names
-  pub texts_are : map (λ o. o.text.items) a.outputs.items ≡ texts
+-- outputs have these names, and these texts
+pub record AreOutputs (names texts : List (List ℕ)) (os : List Output) : Type 0 where
+  pub names_are : map (λ o. o.name.now) os ≡ names
+  pub texts_are : map (λ o. o.text.items) os ≡ texts
 
 -- a report alone
 pub record ReportsAlone (e : Ending) (a : Answer) : Type 0 where
@@ -87,14 +99,41 @@ pub record IsFitted (i : Inputs) (a : Answer) : Type 0 where
   pub tables : Tables
   pub price : Pricing
   pub certified : IsCertifiedRelease i tables price
-  pub outputs : AreOutputs (codes "tables" ∷ codes "prices" ∷ []) (tables_text i.schema i.spine tables ∷ pricing_text i price ∷ []) a
+  pub outputs : AreOutputs (codes "tables" ∷ codes "prices" ∷ []) (tables_text i.schema i.spine tables ∷ pricing_text i price ∷ []) a.outputs.items
   pub report : a.report.items ≡ (fitted_ending i tables).report
 
--- the files of measurements, totals and ledger, whose sum is at most the total, and the line that tells of them
+-- the files of measurements, totals and ledger
+abbrev pub AreMeasuredFiles : Schema → Spine → List ℤ → List ℕ → List Output → Type 0
+AreMeasuredFiles s sp m totals os = AreOutputs (codes "measurements" ∷ codes "totals" ∷ codes "ledger" ∷ []) (measurements_text s sp m ∷ totals_text sp totals ∷ ledger_text s ∷ []) os
+
+-- those files, the ledger's sum at most the total, and the line that tells of them
 pub record Tells (s : Schema) (sp : Spine) (m : List ℤ) (totals : List ℕ) (taken : ℕ) (a : Answer) : Type 0 where
-  pub outputs : AreOutputs (codes "measurements" ∷ codes "totals" ∷ codes "ledger" ∷ []) (measurements_text s sp m ∷ totals_text sp totals ∷ ledger_text s ∷ []) a
+  pub outputs : AreMeasuredFiles s sp m totals a.outputs.items
   pub report : a.report.items ≡ (measured_ending s sp taken).report
   pub within : IsAtMost (frac_of (spent_of s)) (frac_of s.total)
+
+-- those files, the files of a release over these facilities, totals and measurements and of prices that certify it, and the line that
+-- tells of them all
+pub record TellsRun (s : Schema) (sp : Spine) (f : NumberTable) (totals : List ℕ) (m : List ℤ) (taken : ℕ) (a : Answer) : Type 0 where
+  pub tables : Tables
+  pub price : Pricing
+  pub certified : IsCertifiedRelease (inputs_by s sp (known sp f totals) m) tables price
+  pub outputs : AreOutputs (codes "measurements" ∷ codes "totals" ∷ codes "ledger" ∷ codes "tables" ∷ codes "prices" ∷ [])
+      (measurements_text s sp m ∷ totals_text sp totals ∷ ledger_text s ∷ tables_text s sp tables ∷ pricing_text (inputs_by s sp (known sp f totals) m) price ∷ []) a.outputs.items
+  pub report : a.report.items ≡ (run_ending (length (places_of s sp)) (frac_of (spent_of s)) taken sp (total_deviation (inputs_by s sp (known sp f totals) m) tables)).report
+  pub within : IsAtMost (frac_of (spent_of s)) (frac_of s.total)
+
+-- measurements of these tables, with so many of these words taken
+pub record AreDrawnFrom (c : Counted) (words : List ℕ) (d : Drawn) : Type 0 where
+  pub rest : List ℕ
+  pub measured : AreMeasured c.schema c.spine (count_at c.tables) words d.measurements rest
+  pub taken_are : d.taken + length rest ≡ length words
+  pub belong : AreMeasurementsOf c.schema c.spine d.measurements
+
+-- what the draws come to, unless memory ran out
+abbrev pub ComesTo : Counted → List ℕ → Result Drawn MeasureStop → Type 0
+ComesTo c words (Ok d) = AreDrawnFrom c words d
+ComesTo c words (Err why) = why ≢ draw.NoMemory → (rest : List ℕ) × NoiseStops (variances_of c.schema c.spine) words why rest
 
 -- what is measured of these tables with these words
 pub record MeasuresWith (c : Counted) (words : List ℕ) (a : Answer) : Type 0 where
@@ -105,6 +144,15 @@ pub record MeasuresWith (c : Counted) (words : List ℕ) (a : Answer) : Type 0 w
   pub taken_are : taken + length rest ≡ length words
   pub tells : Tells c.schema c.spine measurements (state_persons c.schema c.spine (count_at c.tables)) taken a
 
+-- and a release over it
+pub record RunsWith (c : Counted) (words : List ℕ) (a : Answer) : Type 0 where
+  pub measurements : List ℤ
+  pub rest : List ℕ
+  pub taken : ℕ
+  pub measured : AreMeasured c.schema c.spine (count_at c.tables) words measurements rest
+  pub taken_are : taken + length rest ≡ length words
+  pub tells : TellsRun c.schema c.spine c.facilities (state_persons c.schema c.spine (count_at c.tables)) measurements taken a
+
 -- the noise on these words stops, with this status
 pub record StopsWith (s : Schema) (sp : Spine) (words : List ℕ) (status : ℕ) (a : Answer) : Type 0 where
   pub why : MeasureStop
@@ -113,15 +161,15 @@ pub record StopsWith (s : Schema) (sp : Spine) (words : List ℕ) (status : ℕ)
   pub ends : (stop_ending s sp why).status ≡ status
   pub alone : ReportsAlone (stop_ending s sp why) a
 
--- the answer to what the noise comes to, by its cause
-abbrev pub AnswersBy : Cause → Counted → List ℕ → Answer → Type 0
-AnswersBy cause.Done c words a = MeasuresWith c words a
-AnswersBy cause.OutOfWords c words a = StopsWith c.schema c.spine words 6 a
-AnswersBy cause.TooLarge c words a = StopsWith c.schema c.spine words 7 a
-AnswersBy _ c words a = ⊥
+-- the answer to what the noise comes to, by its cause: this is made where each place has its number
+abbrev pub AnswersBy : Type 0 → Cause → Counted → List ℕ → Answer → Type 0
+AnswersBy made cause.Done c words a = made
+AnswersBy made cause.OutOfWords c words a = StopsWith c.schema c.spine words 6 a
+AnswersBy made cause.TooLarge c words a = StopsWith c.schema c.spine words 7 a
+AnswersBy made _ c words a = ⊥
 
-abbrev pub AnswersNoise : Counted → List ℕ → Answer → Type 0
-AnswersNoise c words a = AnswersBy a.cause c words a
+abbrev pub AnswersNoise : (Counted → List ℕ → Answer → Type 0) → Counted → List ℕ → Answer → Type 0
+AnswersNoise made c words a = AnswersBy (made c words a) a.cause c words a
 
 -- counts that can be measured, and words to do so
 pub record CanBeMeasured (c : Counted) : Type 0 where
@@ -131,6 +179,13 @@ pub record CanBeMeasured (c : Counted) : Type 0 where
   pub few_in_states : sum (state_persons c.schema c.spine (count_at c.tables)) ≤ persons_limit
   pub noise : IsSource c.noise
 
+-- and tables can be made from what is measured of them
+pub record CanBeRun (c : Counted) : Type 0 where
+  pub measured : CanBeMeasured c
+  pub limits : IsWithinLimits c.schema c.spine
+  pub table : IsTableOf c.schema c.spine c.facilities
+  pub enough : AreEnough c.schema c.spine c.facilities c.tables
+
 -- what is measured of a survey
 pub record IsMeasured (v : Survey) (a : Answer) : Type 0 where
   pub measurements : List ℤ
@@ -138,20 +193,36 @@ pub record IsMeasured (v : Survey) (a : Answer) : Type 0 where
   pub measured : MeasuresSurvey v measurements taken
   pub tells : Tells v.schema v.spine measurements (state_counts v.spine v.records) taken a
 
+-- and a release over it
+pub record IsRun (v : Survey) (a : Answer) : Type 0 where
+  pub measurements : List ℤ
+  pub taken : ℕ
+  pub measured : MeasuresSurvey v measurements taken
+  pub tells : TellsRun v.schema v.spine v.facilities (state_counts v.spine v.records) measurements taken a
+
 -- the inputs, or the survey, that the inbox holds
 abbrev pub HasInputs : List (List ℕ) → Option Shelf → Inputs → Type 0
 HasInputs words shelf i = (command_of words ≡ Some command.Fit) × IfSome shelf (λ s. inputs_from (given_by words s.holds) ≡ Ok i)
 
 -- and the noise on each list of words comes to exactly one thing
-pub record HasSurvey (words : List (List ℕ)) (shelf : Option Shelf) (v : Survey) : Type 0 where
-  pub is : command_of words ≡ Some command.Measure
+pub record HasSurvey (c : Command) (words : List (List ℕ)) (shelf : Option Shelf) (v : Survey) : Type 0 where
+  pub is : command_of words ≡ Some c
   pub held : IfSome shelf (λ s. survey_from words (given_by words s.holds) ≡ Ok v)
   pub one : IsDetermined (IsNoise (variances_of v.schema v.spine))
 
 -- what a command that is done has made
 abbrev pub IsDone : Command → List (List ℕ) → Option Shelf → Answer → Type 0
 IsDone command.Fit words shelf a = (i : Inputs) × HasInputs words shelf i × IsFitted i a
-IsDone command.Measure words shelf a = (v : Survey) × HasSurvey words shelf v × IsMeasured v a
+IsDone command.Measure words shelf a = (v : Survey) × HasSurvey command.Measure words shelf v × IsMeasured v a
+IsDone command.Run words shelf a = (v : Survey) × HasSurvey command.Run words shelf v × IsRun v a
+
+-- the noise of a command that draws stops, with this status
+pub record StopsAs (status : ℕ) (words : List (List ℕ)) (shelf : Option Shelf) (a : Answer) : Type 0 where
+  pub command : Command
+  pub draws : Draws command
+  pub survey : Survey
+  pub has : HasSurvey command words shelf survey
+  pub stops : StopsWith survey.schema survey.spine survey.words status a
 
 -- a file is refused
 pub record RefusesFile (words : List (List ℕ)) (shelf : Option Shelf) (f : File) (a : Answer) : Type 0 where
@@ -173,8 +244,8 @@ SuitsBy cause.Done words shelf a = (c : Command) × IsDone c words shelf a
 SuitsBy cause.Words words shelf a = (command_of words ≡ None) × ReportsAlone words_ending a
 SuitsBy (cause.Refused f) words shelf a = RefusesFile words shelf f a
 SuitsBy (cause.Read f) words shelf a = FailsAt words shelf f a
-SuitsBy cause.OutOfWords words shelf a = (v : Survey) × HasSurvey words shelf v × StopsWith v.schema v.spine v.words 6 a
-SuitsBy cause.TooLarge words shelf a = (v : Survey) × HasSurvey words shelf v × StopsWith v.schema v.spine v.words 7 a
+SuitsBy cause.OutOfWords words shelf a = StopsAs 6 words shelf a
+SuitsBy cause.TooLarge words shelf a = StopsAs 7 words shelf a
 
 abbrev pub Suits : List (List ℕ) → Option Shelf → Answer → Type 0
 Suits words shelf a = SuitsBy a.cause words shelf a

@@ -1,93 +1,29 @@
 -- How the program is due to end, and its report, by its words and what the inbox holds.
-use Rattle.std.specs.Prelude.{ℕ, ℤ, ◌≡◌, ◌≢◌, ◌==◌, if◌then◌else◌, codes, List, [], slice_index_or, Option, Some, None, Result, Ok, Err}
-use Rattle.tda_io.specs.Due.{◌>>=◌}
-use Rattle.tda_schema.specs.Read as schema
-use Rattle.tda_spine.specs.Judged as spine
-use Rattle.tda_invar.specs.Facilities as facilities
-use Rattle.tda_invar.specs.Totals as totals
-use Rattle.tda_invar.specs.Known.{known, join_due}
-use Rattle.tda_records.specs.Records as records
-use Rattle.tda_records.specs.declared.records.Record.{Record}
-use Rattle.tda_hist.specs.TrueTable.{true_count}
-use Rattle.tda_hist.specs.Agreement.{agree_due}
+use Rattle.std.specs.Prelude.{ℕ, List, Option, Some, None, Result, Ok, Err, ◌≡◌, ◌≢◌}
 use Rattle.tda_model.specs.Release.{Inputs}
-use Rattle.tda_model.specs.Schema.{Schema}
-use Rattle.tda_model.specs.Spine.{Spine}
-use Rattle.tda_places.specs.Measurements as measurements
-use Rattle.tda_tool.specs.Measuring.{Survey, noise_from, MeasureEnds}
-use Rattle.tda_tool.specs.Fitting.{inputs_by, FitEnds}
-use Rattle.tda_command.specs.Words.{command_of, reads_of, source_of}
-use Rattle.tda_tool.specs.Ending.{Ending, words_ending, written_limit, or_refused, judged_file, judged_within}
-use Rattle.tda_refusal.specs.Refusal.{schema_text, spine_text, facilities_text, totals_text, join_text, records_text, hist_text, measurements_text}
-use Rattle.tda_tool.specs.declared.base.Base.{Base}
+use Rattle.tda_io.specs.Due.{◌>>=◌}
+use Rattle.tda_command.specs.Words.{command_of}
 use Rattle.tda_command.specs.declared.words.Command.{Command}
+use Rattle.tda_inputs.specs.Ending.{Ending}
+use Rattle.tda_inputs.specs.Survey.{Survey}
+use Rattle.tda_inputs.specs.Accepted.{Given, given_by, inputs_from, survey_from}
+use Rattle.tda_tool.specs.Ending.{words_ending}
+use Rattle.tda_tool.specs.Measuring.{MeasureEnds, WordsSuffice}
+use Rattle.tda_tool.specs.Fitting.{FitEnds}
+use Rattle.tda_tool.specs.Running.{RunEnds}
 use Rattle.tda_command.specs.declared.words.Command.TheVariants as command
-
--- what the reads of a command's files gave, by number: a read that failed gave nothing
-abbrev pub Given : Type 0
-Given = ℕ → Option (List ℕ)
-
--- what the reads of the command's files give where none fails
-abbrev pub given_by : List (List ℕ) → (List ℕ → Option (List ℕ)) → Given
-given_by words holds n = holds (slice_index_or (reads_of words) n [])
-
--- the same where the read of file k fails
-abbrev pub failing_at : ℕ → Given → Given
-failing_at k given n = if n == k then None else given n
-
--- In what follows each file is judged before the next is read.
-
--- the first three files, or how the program ends
-abbrev pub base_from : Given → Result Base Ending
-base_from given = do
-  s ← judged_file (codes "schema") schema_text schema.read (given 0)
-  sp ← judged_file (codes "spine") spine_text (spine.read s) (given 1)
-  f ← judged_file (codes "facilities") facilities_text (facilities.read s sp) (given 2)
-  Ok (record { schema = s; spine = sp; facilities = f })
-
--- the totals, or how the program ends: that they suffice for the facilities is judged with them
-abbrev pub totals_from : Base → Option (List ℕ) → Result (List ℕ) Ending
-totals_from b given = do
-  t ← judged_file (codes "totals") (totals_text b.spine) (totals.read b.spine) given
-  _ ← or_refused (codes "totals") (join_text b.spine) (join_due b.schema b.spine (known b.spine b.facilities t))
-  Ok t
-
--- the records, or how the program ends: that persons and facilities agree is judged with them
-abbrev pub records_from : Base → Option (List ℕ) → Result (List Record) Ending
-records_from b given = do
-  r ← judged_file (codes "records") records_text (records.read b.schema b.spine) given
-  _ ← or_refused (codes "records") (hist_text b.schema b.spine) (agree_due b.schema b.spine b.facilities (true_count b.spine r))
-  Ok r
-
--- the measurements, or how the program ends
-abbrev pub measurements_from : Schema → Spine → Option (List ℕ) → Result (List ℤ) Ending
-measurements_from s sp given = judged_within written_limit (codes "measurements") measurements_text (measurements.read s sp) given
-
--- the inputs of `fit`, or how the program ends
-abbrev pub inputs_from : Given → Result Inputs Ending
-inputs_from given = do
-  b ← base_from given
-  t ← totals_from b (given 3)
-  m ← measurements_from b.schema b.spine (given 4)
-  Ok (inputs_by b.schema b.spine (known b.spine b.facilities t) m)
-
--- what `measure` measures, or how the program ends
-abbrev pub survey_from : List (List ℕ) → Given → Result Survey Ending
-survey_from words given = do
-  b ← base_from given
-  r ← records_from b (given 3)
-  w ← noise_from words (source_of words) (given 4)
-  Ok (record { schema = b.schema; spine = b.spine; records = r; words = w })
 
 -- what is to be done
 pub data Task : Type 0 where
   Fits : Inputs → Task
   Measures : Survey → Task
+  Runs : Survey → Task
 
 -- what a command is to do, where its files are accepted, or how the program ends
 abbrev pub task_of : Command → List (List ℕ) → Given → Result Task Ending
 task_of command.Fit words given = inputs_from given >>= (λ i. Ok (Fits i))
 task_of command.Measure words given = survey_from words given >>= (λ v. Ok (Measures v))
+task_of command.Run words given = survey_from words given >>= (λ v. Ok (Runs v))
 
 -- what the words ask for, by what the reads give
 abbrev pub task_by : List (List ℕ) → Given → Result Task Ending
@@ -97,6 +33,7 @@ task_by words given = elim (command_of words) [ None ↦ Err words_ending | Some
 abbrev pub TaskEnds : Task → Ending → Type 0
 TaskEnds (Fits i) e = FitEnds i e
 TaskEnds (Measures v) e = MeasureEnds v e
+TaskEnds (Runs v) e = RunEnds v e
 
 abbrev pub EndsBy : Result Task Ending → Ending → Type 0
 EndsBy (Ok task) e = TaskEnds task e
@@ -119,3 +56,15 @@ pub record IsDue (words : List (List ℕ)) (holds : List ℕ → Option (List �
 -- this status is due, and no other one
 abbrev pub IsDueStatus : List (List ℕ) → (List ℕ → Option (List ℕ)) → ℕ → Type 0
 IsDueStatus words holds status = (e : Ending) × IsDue words holds e × (e.status ≡ status)
+
+-- the words of the noise suffice for a task
+abbrev pub Suffices : Task → Type 0
+Suffices (Fits i) = Unit {0}
+Suffices (Measures v) = WordsSuffice v
+Suffices (Runs v) = WordsSuffice v
+
+-- the words are right, the files are accepted, and the words of the noise suffice
+pub record IsComplete (words : List (List ℕ)) (holds : List ℕ → Option (List ℕ)) : Type 0 where
+  pub task : Task
+  pub accepted : due_task words holds ≡ Ok task
+  pub enough : Suffices task

@@ -1,10 +1,8 @@
 pub mod Ending
-pub mod Files
 pub mod Measuring
 pub mod Fitting
+pub mod Running
 pub mod Due
 pub mod Outcome
-pub mod Reading
-pub mod Texts
 pub mod Output
 pub mod Answer

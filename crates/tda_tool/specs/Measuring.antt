@@ -1,47 +1,28 @@
--- What `measure` measures, and how it ends: by the noise on the words.
-use Rattle.std.specs.Prelude.{ℕ, ℤ, ◌≡◌, ◌+◌, ◌-◌, ◌%◌, ◌==◌, if◌then◌else◌, codes, List, [], length, map, count_by, slice_get, Option, Some, None, Result, Ok, Err}
+-- What is measured, and how that ends: by the noise on the words.
+use Rattle.std.specs.Prelude.{ℕ, ℤ, List, [], length, Some, None, Result, Ok, Err, ◌≡◌, ◌+◌, ◌-◌, map, count_by, slice_get}
 use Rattle.std.specs.List.{join_with_byte}
-use Rattle.rand_chacha.specs.ChaCha.{key_of}
-use Rattle.tda_model.specs.Schema.{Schema}
 use Rattle.tda_model.specs.Spine.{Spine, units_at}
+use Rattle.tda_model.specs.Schema.{Schema}
 use Rattle.tda_schema.specs.Shares.{frac_of, spent_of}
 use Rattle.tda_records.specs.declared.records.Record.{Record}
 use Rattle.tda_hist.specs.TrueTable.{lives_in, true_count}
 use Rattle.tda_places.specs.Places.{places_of}
 use Rattle.tda_places.specs.Measurements.{place_fields}
-use Rattle.tda_words.specs.Words.{words_of, stream_words}
 use Rattle.tda_measure.specs.Measured.{AreMeasured}
 use Rattle.tda_measure.specs.Noise.{variances_of, IsNoise}
 use Rattle.tda_measure.specs.declared.stop.MeasureStop.{MeasureStop}
+use Rattle.tda_command.specs.declared.words.Command.{Command}
+use Rattle.tda_command.specs.declared.words.Command.TheVariants.{Fit, Measure, Run}
+use Rattle.tda_inputs.specs.Ending.{Ending}
+use Rattle.tda_inputs.specs.Survey.{Survey}
+use Rattle.tda_tool.specs.Ending.{out_of_words_ending, too_large_ending, memory_ending, measure_ending}
 use Rattle.tda_measure.specs.declared.stop.MeasureStop.TheVariants as stop
-use Rattle.tda_command.specs.Words.{number_of}
-use Rattle.tda_tool.specs.Ending.{Ending, file_limit, seed_length, judged_within, out_of_words_ending, too_large_ending, memory_ending, measure_ending}
-use Rattle.tda_refusal.specs.Refusal.{plain_text}
-use Rattle.tda_refusal.specs.declared.text.Plain.{Plain}
-use Rattle.tda_refusal.specs.declared.text.Plain.TheVariants.{BadLength}
-use Rattle.tda_command.specs.declared.words.Number.TheVariants.{Place, Budget}
-use Rattle.tda_command.specs.declared.words.Source.{Source}
-use Rattle.tda_command.specs.declared.words.Source.TheVariants as source
 
--- persons who live in the blocks of a spine, and the words of the noise
-pub record Survey : Type 0 where
-  pub schema : Schema
-  pub spine : Spine
-  pub records : List Record
-  pub words : List ℕ
-
--- the words of a file: each four bytes are one
-abbrev pub read_words : List ℕ → Result (List ℕ) Plain
-read_words bytes = if length bytes % 4 == 0 then Ok (words_of bytes) else Err BadLength
-
--- the words of a seed, as many as the budget from a place of its stream on
-abbrev pub read_seed : ℕ → ℕ → List ℕ → Result (List ℕ) Plain
-read_seed from count bytes = if length bytes == seed_length then Ok (stream_words (key_of bytes) from count) else Err BadLength
-
--- the words of the noise, by the bytes that the read of the words' or of the seed's file gave, or how the program ends
-abbrev pub noise_from : List (List ℕ) → Source → Option (List ℕ) → Result (List ℕ) Ending
-noise_from words source.Words given = judged_within file_limit (codes "words") plain_text read_words given
-noise_from words source.Seed given = judged_within seed_length (codes "seed") plain_text (read_seed (number_of words Place) (number_of words Budget)) given
+-- the commands that draw noise
+abbrev pub Draws : Command → Type 0
+Draws Measure = Unit {0}
+Draws Run = Unit {0}
+Draws Fit = ⊥
 
 -- a place as it is printed: the unit's code, the query's name and the class's number, and nothing where there is no such place
 abbrev pub place_text : Schema → Spine → ℕ → List ℕ
@@ -78,3 +59,7 @@ pub record MeasuresSurvey (v : Survey) (m : List ℤ) (taken : ℕ) : Type 0 whe
   pub rest : List ℕ
   pub measured : AreMeasured v.schema v.spine (true_count v.spine v.records) v.words m rest
   pub taken_are : taken + length rest ≡ length v.words
+
+-- each place has a number on the words, so that neither do they end before the last draw nor does a magnitude pass its limit
+abbrev pub WordsSuffice : Survey → Type 0
+WordsSuffice v = (noise : List ℤ) × (rest : List ℕ) × IsNoise (variances_of v.schema v.spine) v.words (Ok noise) rest

@@ -1,26 +1,31 @@
 -- What a run of the program asked for, and what it leaves in the outbox.
-use Rattle.std.specs.Prelude.{◌≡◌, ◌≢◌, ◌≤◌, ◌⊎◌, ◌+◌, ◌==◌, ℕ, ℤ, Bool, true, if◌then◌else◌, List, [], ◌∷◌, ◌++◌, length, take, map, slice_index_or, Option, Some, IfSome, option_map, Ok, Err}
+use Rattle.std.specs.Prelude.{ℕ, ℤ, List, [], ◌∷◌, ◌++◌, length, Option, Some, Ok, Err, ◌≡◌, ◌+◌, ◌==◌, map, ◌≢◌, slice_index_or, ◌≤◌, ◌⊎◌, Bool, true, if◌then◌else◌, take, IfSome, option_map}
 use Rattle.std.specs.List.{list_any, zip}
-use Rattle.tda_io.specs.Outside.{Shelf, Tray, Written}
-use Rattle.tda_model.specs.Tables.{Tables}
-use Rattle.tda_model.specs.TablesText.{tables_text}
-use Rattle.tda_frac.specs.Fraction.{IsAtMost}
 use Rattle.tda_schema.specs.Shares.{frac_of, spent_of}
-use Rattle.tda_invar.specs.Totals.{totals_text}
-use Rattle.tda_ledger.specs.LedgerText.{ledger_text}
-use Rattle.tda_places.specs.Measurements.{measurements_text}
 use Rattle.tda_measure.specs.Noise.{variances_of, NoiseStops}
 use Rattle.tda_measure.specs.declared.stop.MeasureStop.{MeasureStop}
+use Rattle.tda_model.specs.Tables.{Tables}
 use Rattle.tda_model.specs.Release.{Inputs}
 use Rattle.tda_prices.specs.Items.{Pricing}
-use Rattle.tda_tool.specs.Fitting.{IsCertifiedRelease, pricing_text, fitted_ending}
-use Rattle.tda_tool.specs.Measuring.{Survey, state_counts, stop_ending, measured_ending, MeasuresSurvey}
 use Rattle.tda_command.specs.Words.{command_of, reads_of, writes_of, dash}
-use Rattle.tda_command.specs.declared.words.Command.TheVariants.{Measure}
-use Rattle.tda_tool.specs.Files.{name_of, place_of_file, IsRead, IsFaultOf}
-use Rattle.tda_tool.specs.declared.reading.File.{File}
-use Rattle.tda_tool.specs.Ending.{Ending, read_ending, refused_ending}
-use Rattle.tda_tool.specs.Due.{inputs_from, survey_from, given_by, failing_at, task_by, due_task, IsDue, IsDueStatus}
+use Rattle.tda_invar.specs.Totals.{totals_text}
+use Rattle.tda_places.specs.Measurements.{measurements_text}
+use Rattle.tda_io.specs.Outside.{Shelf, Tray, Written}
+use Rattle.tda_model.specs.TablesText.{tables_text}
+use Rattle.tda_frac.specs.Fraction.{IsAtMost}
+use Rattle.tda_ledger.specs.LedgerText.{ledger_text}
+use Rattle.tda_command.specs.declared.words.Command.{Command}
+use Rattle.tda_inputs.specs.declared.reading.File.{File}
+use Rattle.tda_inputs.specs.Ending.{Ending, refused_ending, read_ending}
+use Rattle.tda_inputs.specs.Asked.{asks_all}
+use Rattle.tda_inputs.specs.Survey.{Survey}
+use Rattle.tda_inputs.specs.Accepted.{given_by, failing_at, inputs_from, survey_from}
+use Rattle.tda_release.specs.Certified.{IsCertifiedRelease, pricing_text}
+use Rattle.tda_tool.specs.Measuring.{Draws, stop_ending, measured_ending, state_counts, MeasuresSurvey}
+use Rattle.tda_tool.specs.Fitting.{fitted_ending}
+use Rattle.tda_tool.specs.Running.{run_inputs, ran_ending}
+use Rattle.tda_tool.specs.Due.{task_by, due_task, IsDue, IsDueStatus}
+use Rattle.tda_inputs.specs.Files.{name_of, place_of_file, IsRead, IsFaultOf}
 
 -- a file with all its bytes, ended
 abbrev pub whole : List ℕ → List ℕ → Written
@@ -56,16 +61,6 @@ pub record IsSettled (status : ℕ) : Type 0 where
   pub read : status ≢ 4
   pub written : status ≢ 5
   pub remembered : status ≢ 8
-
--- the shelf with more names asked for
-abbrev pub asks_all : List (List ℕ) → Shelf → Shelf
-asks_all names s = record s { asked = s.asked ++ names }
-
--- the first ones of these names, and no others, were asked for
-pub record AsksPrefix (names : List (List ℕ)) (old new : Option Shelf) : Type 0 where
-  pub count : ℕ
-  pub within : count ≤ length names
-  pub asked : new ≡ option_map (asks_all (take count names)) old
 
 -- `begin` was asked for these names, in this order
 abbrev pub AsksBegin : List (List ℕ) → Option Tray → Option Tray → Type 0
@@ -127,9 +122,11 @@ pub record FitWrote (words : List (List ℕ)) (holds : List ℕ → Option (List
       ∷ whole (slice_index_or (writes_of words) 1 []) (pricing_text inputs price)
       ∷ whole dash (fitted_ending inputs tables).report ∷ []) old new
 
--- The noise of `measure` stops, so that this is the status: all files were asked for and accepted, and nothing but the report of the place was begun.
+-- The noise of `measure` or `run` stops, so that this is the status: all files were asked for and accepted, and nothing but the report of the place was begun.
 pub record NoiseStopped (words : List (List ℕ)) (status : ℕ) (shelf shelf_new : Option Shelf) (old new : Option Tray) : Type 0 where
-  pub command : command_of words ≡ Some Measure
+  pub command : Command
+  pub is : command_of words ≡ Some command
+  pub draws : Draws command
   pub asked : shelf_new ≡ option_map (asks_all (reads_of words)) shelf
   pub survey : Survey
   pub accepted : IfSome shelf (λ s. survey_from words (given_by words s.holds) ≡ Ok survey)
@@ -153,3 +150,23 @@ pub record MeasureWrote (words : List (List ℕ)) (holds : List ℕ → Option (
       ∷ whole (slice_index_or (writes_of words) 1 []) (totals_text survey.spine (state_counts survey.spine survey.records))
       ∷ whole (slice_index_or (writes_of words) 2 []) (ledger_text survey.schema)
       ∷ whole dash (measured_ending survey.schema survey.spine taken).report ∷ []) old new
+
+-- `run` wrote what `measure` writes of what the inbox holds, tables that are a release over the facilities, the written totals and the
+-- written measurements, prices that certify them, and its report with their deviation, and nothing else.
+pub record RunWrote (words : List (List ℕ)) (holds : List ℕ → Option (List ℕ)) (old new : Option Tray) : Type 0 where
+  pub survey : Survey
+  pub accepted : survey_from words (given_by words holds) ≡ Ok survey
+  pub measurements : List ℤ
+  pub taken : ℕ
+  pub measured : MeasuresSurvey survey measurements taken
+  pub within : IsAtMost (frac_of (spent_of survey.schema)) (frac_of survey.schema.total)
+  pub tables : Tables
+  pub price : Pricing
+  pub certified : IsCertifiedRelease (run_inputs survey measurements) tables price
+  pub written : Leaves
+      (whole (slice_index_or (writes_of words) 0 []) (measurements_text survey.schema survey.spine measurements)
+      ∷ whole (slice_index_or (writes_of words) 1 []) (totals_text survey.spine (state_counts survey.spine survey.records))
+      ∷ whole (slice_index_or (writes_of words) 2 []) (ledger_text survey.schema)
+      ∷ whole (slice_index_or (writes_of words) 3 []) (tables_text survey.schema survey.spine tables)
+      ∷ whole (slice_index_or (writes_of words) 4 []) (pricing_text (run_inputs survey measurements) price)
+      ∷ whole dash (ran_ending survey measurements taken tables).report ∷ []) old new

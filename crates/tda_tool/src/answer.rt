@@ -1,7 +1,6 @@
 // What the program answers.
-use crate::reading::File;
-use crate::refusal::Refusal;
 use std::alloc::Global;
+use tda_inputs::{File, Refusal};
 use tda_io::NoMemory;
 
 /// Why the program ends, where memory suffices and all can be written.
@@ -57,8 +56,9 @@ pub(crate) struct Answer {
 
 impl Answer {
     ghost use Rattle.std.specs.Prelude.{◌≡◌, [], IfOk};
-    ghost use Rattle.tda_tool.specs.Ending.{words_ending, read_ending, refused_ending};
-    ghost use Rattle.tda_tool.specs.Files.{name_of};
+    ghost use Rattle.tda_tool.specs.Ending.{words_ending};
+    ghost use Rattle.tda_inputs.specs.Ending.{read_ending, refused_ending};
+    ghost use Rattle.tda_inputs.specs.Files.{name_of};
     ghost use Rattle.tda_tool.specs.Answer.{ReportsAlone};
 
     /// A report alone.

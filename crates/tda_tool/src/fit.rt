@@ -2,16 +2,16 @@
 ghost use Rattle.std.specs.Prelude.{◌≡◌, IfOk};
 ghost use Rattle.tda_invar.specs.Known.{known_of};
 ghost use Rattle.tda_tool.specs.Ending.{fit_ending};
-ghost use Rattle.tda_tool.specs.Fitting.{inputs_by};
-ghost use Rattle.tda_tool.specs.Reading.{AreInputs};
+ghost use Rattle.tda_inputs.specs.Accepted.{inputs_by};
+ghost use Rattle.tda_inputs.specs.Reading.{AreInputs};
 ghost use Rattle.tda_tool.specs.Answer.{IsFitted};
 
 use crate::answer::{Answer, Cause, Output};
-use crate::release::release_texts;
 use std::alloc::Global;
 use tda_invar::Invariants;
 use tda_io::NoMemory;
 use tda_places::Measurements;
+use tda_release::release_texts;
 use tda_schema::Schema;
 use tda_spine::Spine;
 

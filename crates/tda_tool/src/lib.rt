@@ -2,18 +2,13 @@
 #![tactic(auto)]
 
 mod answer;
-mod base;
-mod counted;
+mod draw;
 mod fit;
-mod inputs;
 mod measured;
-mod noise;
 mod output;
 mod prepare;
 mod publish;
-mod reading;
-mod refusal;
-mod release;
+mod run;
 mod top;
 
 pub use top::tool;

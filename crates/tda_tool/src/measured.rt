@@ -1,5 +1,5 @@
 // What `measure` answers.
-ghost use Rattle.std.specs.Prelude.{◌≡◌, ◌<◌, ◌≤◌, ◌++◌, codes, length, string_bytes, sum, IfOk, OnOk};
+ghost use Rattle.std.specs.Prelude.{◌≡◌, ◌<◌, ◌≤◌, ◌++◌, codes, length, string_bytes, sum, IfOk, OnOk, Err};
 ghost use Rattle.tda_frac.specs.Fraction.{IsAtMost, text_of};
 ghost use Rattle.tda_model.specs.Bounds.{persons_limit};
 ghost use Rattle.tda_schema.specs.Shares.{frac_of, spent_of};
@@ -10,23 +10,22 @@ ghost use Rattle.tda_hist.specs.TrueTable.{state_persons};
 ghost use Rattle.tda_places.specs.Measurements.{measurements_text, AreMeasurementsOf};
 ghost use Rattle.tda_places.specs.Places.{places_of};
 ghost use Rattle.tda_measure.specs.Noise.{variances_of, IsDetermined, IsNoise};
+ghost use Rattle.tda_inputs.specs.Reading.{noise_words};
 ghost use Rattle.tda_tool.specs.Measuring.{place_text, measured_ending};
 ghost use Rattle.tda_tool.specs.Ending.{out_of_words_ending, too_large_ending};
-ghost use Rattle.tda_tool.specs.Reading.{noise_words};
-ghost use Rattle.tda_tool.specs.Answer.{IsOutput, ReportsAlone, Tells, AnswersNoise, CanBeMeasured};
+ghost use Rattle.tda_tool.specs.Answer.{IsOutput, ReportsAlone, Tells, AreMeasuredFiles, AnswersBy, AnswersNoise, MeasuresWith, ComesTo, CanBeMeasured};
 
 use crate::answer::{Answer, Cause, Output};
-use crate::counted::Counted;
-use crate::noise::Noise;
+use crate::draw::{Drawn, draw};
 use std::alloc::Global;
 use tda_hist::state_totals;
+use tda_inputs::Counted;
 use tda_invar::write_totals;
 use tda_io::NoMemory;
 use tda_ledger::{make_ledger, write_ledger};
-use tda_measure::{MeasureStop, measure};
+use tda_measure::MeasureStop;
 use tda_places::{Measurements, count, place_at, write_measurements};
 use tda_schema::Schema;
-use tda_words::{ListWords, SeedWords, Words};
 
 // A place as it is printed: the unit's code, the query's name and the class's number.
 fn place_text(alloc: Global, counted: &Counted, index: u64) -> Result<String, NoMemory>
@@ -119,8 +118,8 @@ fn ledger_output(alloc: Global, counted: &Counted) -> Result<Output, NoMemory>
     })
 }
 
-// Appends what all queries spend together.
-fn push_spent(schema: &Schema, out: &mut Vec<u8>) -> Result<(), NoMemory>
+/// Appends what all queries spend together.
+pub(crate) fn push_spent(schema: &Schema, out: &mut Vec<u8>) -> Result<(), NoMemory>
     ensures { OnOk result (out.new.items ≡ out.old.items ++ text_of (frac_of (spent_of schema.now))) }
 {
     match schema.spent().push(out) {
@@ -142,53 +141,67 @@ fn line(alloc: Global, counted: &Counted, taken: u64) -> Result<Vec<u8>, NoMemor
     Ok(line)
 }
 
-// That all is measured.
-fn done(alloc: Global, counted: &Counted, m: &Measurements, taken: u64) -> Result<Answer, NoMemory>
+/// The files of the measurements, the totals and the ledger, whose sum is at most the total.
+pub(crate) fn measured_outputs(
+    alloc: Global,
+    counted: &Counted,
+    m: &Measurements,
+) -> Result<Vec<Output>, NoMemory>
     requires belong { counted.now.spine.depth ≡ length counted.now.schema.levels }
     requires measured { AreMeasurementsOf counted.now.schema counted.now.spine m.now }
     requires tables { AreCountsOf counted.now.schema counted.now.spine counted.now.tables }
     requires few { sum (state_persons counted.now.schema counted.now.spine (count_at counted.now.tables)) ≤ persons_limit }
-    ensures cause { IfOk result (λ a. a.cause ≡ Cause.Done) }
-    ensures made { IfOk result (Tells counted.now.schema counted.now.spine m.now (state_persons counted.now.schema counted.now.spine (count_at counted.now.tables)) taken) }
+    ensures outputs { IfOk result (λ v. AreMeasuredFiles counted.now.schema counted.now.spine m.now (state_persons counted.now.schema counted.now.spine (count_at counted.now.tables)) v.items) }
+    ensures within { IfOk result (λ v. IsAtMost (frac_of (spent_of counted.now.schema)) (frac_of counted.now.schema.total)) }
 {
     let mut outputs = Vec::new(alloc);
     outputs.push(measurements_output(alloc, counted, m)?)?;
     outputs.push(totals_output(alloc, counted)?)?;
     outputs.push(ledger_output(alloc, counted)?)?;
+    Ok(outputs)
+}
+
+// That all is measured.
+fn done(alloc: Global, counted: &Counted, drawn: &Drawn) -> Result<Answer, NoMemory>
+    requires counted { CanBeMeasured counted.now }
+    requires measured { AreMeasurementsOf counted.now.schema counted.now.spine drawn.now.measurements }
+    ensures cause { IfOk result (λ a. a.cause ≡ Cause.Done) }
+    ensures made { IfOk result (Tells counted.now.schema counted.now.spine drawn.now.measurements (state_persons counted.now.schema counted.now.spine (count_at counted.now.tables)) drawn.now.taken) }
+{
+    let outputs = measured_outputs(alloc, counted, &drawn.measurements)?;
+    let report = line(alloc, counted, drawn.taken)?;
     Ok(Answer {
         cause: Cause::Done,
         outputs,
-        report: line(alloc, counted, taken)?,
+        report,
     })
 }
 
-// What is measured with these words.
-fn measured_with<W: Words>(alloc: Global, counted: &Counted, w: &mut W) -> Result<Answer, NoMemory>
-    requires fresh { W.taken w.old ≡ 0 }
-    requires counted { CanBeMeasured counted.now }
-    ensures noise { IfOk result (AnswersNoise counted.now (W.words w.old)) }
-    ensures one { IfOk result (λ a. IsDetermined (IsNoise (variances_of counted.now.schema counted.now.spine))) }
+/// That the noise stops at a place.
+pub(crate) fn stopped(
+    alloc: Global,
+    counted: &Counted,
+    stop: MeasureStop,
+) -> Result<Answer, NoMemory>
+    requires belong { counted.now.spine.depth ≡ length counted.now.schema.levels }
+    requires stops { ComesTo counted.now (noise_words counted.now.noise) (Err stop) }
+    ensures { IfOk result (λ a. AnswersBy ⊥ a.cause counted.now (noise_words counted.now.noise) a) }
 {
-    match measure(alloc, &counted.schema, &counted.spine, &counted.tables, w) {
-        Ok(m) => done(alloc, counted, &m, w.taken()),
-        Err(MeasureStop::OutOfWords(index)) => out_of_words(alloc, counted, index),
-        Err(MeasureStop::TooLarge(index, magnitude)) => too_large(alloc, counted, index, magnitude),
-        Err(MeasureStop::NoMemory) => Err(NoMemory),
+    match stop {
+        MeasureStop::OutOfWords(index) => out_of_words(alloc, counted, index),
+        MeasureStop::TooLarge(index, magnitude) => too_large(alloc, counted, index, magnitude),
+        MeasureStop::NoMemory => Err(NoMemory),
     }
 }
 
 /// The measurements, the totals of the states and the ledger, or the place at which the noise stops.
 pub(crate) fn measured(alloc: Global, counted: &Counted) -> Result<Answer, NoMemory>
     requires { CanBeMeasured counted.now }
-    ensures noise { IfOk result (AnswersNoise counted.now (noise_words counted.now.noise)) }
+    ensures noise { IfOk result (AnswersNoise MeasuresWith counted.now (noise_words counted.now.noise)) }
     ensures one { IfOk result (λ a. IsDetermined (IsNoise (variances_of counted.now.schema counted.now.spine))) }
 {
-    match &counted.noise {
-        Noise::Words(bytes) => measured_with(alloc, counted, &mut ListWords::new(bytes)),
-        Noise::Seed {
-            seed,
-            place,
-            budget,
-        } => measured_with(alloc, counted, &mut SeedWords::new(seed, *place, *budget)),
+    match draw(alloc, counted) {
+        Ok(drawn) => done(alloc, counted, &drawn),
+        Err(stop) => stopped(alloc, counted, stop),
     }
 }

@@ -4,13 +4,12 @@ ghost use Rattle.tda_command.specs.Words.{command_of};
 ghost use Rattle.tda_tool.specs.Answer.{Suits, AsksPrepared, CountsPrepared, AnswersStop};
 
 use crate::answer::Answer;
-use crate::counted::read_counted;
 use crate::fit::fitted;
-use crate::inputs::read_inputs;
 use crate::measured::measured;
-use crate::reading::Stop;
+use crate::run::ran;
 use std::alloc::Global;
 use tda_command::{Command, judge};
+use tda_inputs::{Stop, read_counted, read_inputs};
 use tda_io::{Inbox, NoMemory};
 
 // What stops the reading is the answer.
@@ -58,6 +57,20 @@ fn measure<I: Inbox>(alloc: Global, words: &[String], inbox: &mut I) -> Result<A
     }
 }
 
+// What `run` answers.
+fn run<I: Inbox>(alloc: Global, words: &[String], inbox: &mut I) -> Result<Answer, NoMemory>
+    requires command { command_of (map string_bytes words.now) ≡ Some Command.Run }
+    requires room { I.faults inbox.old < 2 ^ 64 - 1 }
+    ensures suits { IfOk result (Suits (map string_bytes words.now) (I.told inbox.old)) }
+    ensures asked { AsksPrepared (map string_bytes words.now) (I.told inbox.old) (I.told inbox.new) result }
+    ensures cause { CountsPrepared (I.faults inbox.old) (I.faults inbox.new) result }
+{
+    match read_counted(alloc, words, inbox) {
+        Ok(counted) => ran(alloc, counted),
+        Err(stop) => stopped(alloc, &stop),
+    }
+}
+
 /// Judges the words, reads and judges the files, and makes the outputs and the report.
 pub(crate) fn prepare<I: Inbox>(
     alloc: Global,
@@ -72,6 +85,7 @@ pub(crate) fn prepare<I: Inbox>(
     match judge(words) {
         Some(Command::Measure) => measure(alloc, words, inbox),
         Some(Command::Fit) => fit(alloc, words, inbox),
+        Some(Command::Run) => run(alloc, words, inbox),
         None => Answer::words(alloc),
     }
 }

@@ -3,8 +3,9 @@ ghost use Rattle.std.specs.Prelude.{◌≡◌, ◌≢◌, ◌⊎◌, ◌↔◌, 
 ghost use Rattle.tda_io.specs.Outside.{CountsOut};
 ghost use Rattle.tda_command.specs.Words.{command_of, reads_of, writes_of};
 ghost use Rattle.tda_tool.specs.Ending.{words_ending};
-ghost use Rattle.tda_tool.specs.Due.{IsDueStatus};
-ghost use Rattle.tda_tool.specs.Outcome.{is_status, IsSettled, IsEmpty, Leaves, LeavesReport, LeavesAll, ReportsDue, FitWrote, MeasureWrote, NoiseStopped, FileRefused, ReadFailed, AsksPrefix, asks_all, BeginsPrefix, BeginsWhenDue};
+ghost use Rattle.tda_tool.specs.Due.{IsDueStatus, IsComplete};
+ghost use Rattle.tda_tool.specs.Outcome.{is_status, IsSettled, IsEmpty, Leaves, LeavesReport, LeavesAll, ReportsDue, FitWrote, MeasureWrote, RunWrote, NoiseStopped, FileRefused, ReadFailed, BeginsPrefix, BeginsWhenDue};
+ghost use Rattle.tda_inputs.specs.Asked.{AsksPrefix, asks_all};
 ghost use Rattle.tda_tool.specs.Answer.{Suits, Asks, files_of, CountsRun, status_of};
 
 use crate::answer::Answer;
@@ -71,6 +72,11 @@ pub fn tool<I: Inbox, O: Outbox>(
 
     ensures statuses { IsTrue (is_status result) }
 
+    // Right words, accepted files and words of noise that suffice give 0 where no object fails, or 8 for want of memory: no
+    // fit is infeasible.
+    ensures complete { I.faults inbox.new ≡ I.faults inbox.old → O.faults outbox.new ≡ O.faults outbox.old →
+        IfSome (I.told inbox.old) (λ s. IsComplete (map string_bytes words.now) s.holds → (result ≡ 0) ⊎ (result ≡ 8)) }
+
     // Where no object failed and memory sufficed, the status is the one that is due. But for status 0 its report stands alone.
     ensures settled { IsSettled result → IfSome (I.told inbox.old) (λ s.
         IsDueStatus (map string_bytes words.now) s.holds result) }
@@ -86,6 +92,11 @@ pub fn tool<I: Inbox, O: Outbox>(
     // words, and nothing else is written but the report.
     ensures measure_wrote { result ≡ 0 → command_of (map string_bytes words.now) ≡ Some Command.Measure → IfSome (I.told inbox.old) (λ s.
         MeasureWrote (map string_bytes words.now) s.holds (O.told outbox.old) (O.told outbox.new)) }
+
+    // What `run` writes: the measurements, totals and ledger as `measure` does, and tables that are a release over the written
+    // measurements and totals, as the prices show that it writes, and nothing else but the report.
+    ensures run_wrote { result ≡ 0 → command_of (map string_bytes words.now) ≡ Some Command.Run → IfSome (I.told inbox.old) (λ s.
+        RunWrote (map string_bytes words.now) s.holds (O.told outbox.old) (O.told outbox.new)) }
     ensures all_written { result ≡ 0 →
         LeavesAll (writes_of (map string_bytes words.now)) (O.told outbox.old) (O.told outbox.new) }
 

@@ -10,6 +10,8 @@ mod fit_tests;
 #[cfg(test)]
 mod measure_tests;
 #[cfg(test)]
+mod run_tests;
+#[cfg(test)]
 mod samples;
 #[cfg(test)]
 mod word_tests;

@@ -14,6 +14,10 @@ pub(crate) const FIT: &str =
 pub(crate) const MEASURE: &str =
     "measure --schema a --spine b --facilities c --records d --measurements m --totals t --ledger l";
 
+// The words of `run` but for the source of its words.
+pub(crate) const RUN: &str =
+    "run --schema a --spine b --facilities c --records d --measurements m --totals t --ledger l --tables x --prices p";
+
 pub(crate) const SCHEMA: &str =
     "version = 1\ntotal = \"1\"\n\n[[attribute]]\nname = \"kind\"\nvalues = [\"house\"]\n\n[[level]]\nname = \"nation\"\n\n[[level]]\nname = \"state\"\n\n[[level]]\nname = \"block\"\n";
 

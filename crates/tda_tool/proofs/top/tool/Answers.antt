@@ -18,6 +18,14 @@ pub returns-clause-measure_wrote : goal.returns-clause-measure_wrote
 returns-clause-measure_wrote g c =
     rw c.status.ensures (ran.measure_wrote (map string_bytes c.args.words.now) _ c.run.result _ _ c.run.ensures.suits c.run.ensures.written)
 
+pub returns-clause-run_wrote : goal.returns-clause-run_wrote
+returns-clause-run_wrote g c =
+    rw c.status.ensures (ran.run_wrote (map string_bytes c.args.words.now) _ c.run.result _ _ c.run.ensures.suits c.run.ensures.written)
+
+pub returns-clause-complete : goal.returns-clause-complete
+returns-clause-complete g c =
+    rw c.status.ensures (ran.complete (map string_bytes c.args.words.now) _ c.run.result _ _ _ _ c.run.ensures.suits c.run.ensures.cause_in c.run.ensures.cause_out)
+
 pub returns-clause-all_written : goal.returns-clause-all_written
 returns-clause-all_written g c =
     rw c.status.ensures (ran.all_written (map string_bytes c.args.words.now) _ c.run.result _ _ c.run.ensures.suits c.run.ensures.written)

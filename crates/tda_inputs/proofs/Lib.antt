@@ -1,0 +1,10 @@
+pub mod Asked
+pub mod Judged
+pub mod Stops
+pub mod Bases
+pub mod Beside
+pub mod Gathered
+pub mod Agreed
+pub mod Surveys
+pub mod Noises
+pub mod FaultUnits

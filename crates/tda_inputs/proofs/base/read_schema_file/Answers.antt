@@ -1,0 +1,16 @@
+use Rattle.std.proofs.Common.{codes, map, string_bytes}
+use Rattle.tda_schema.specs.Read as schema
+use Rattle.tda_refusal.specs.Refusal.{schema_text}
+use Rattle.tda_inputs.specs.declared.reading.File.TheVariants as file
+use Rattle.tda_inputs.specs.Files.{limit_of}
+use Rattle.tda_inputs.proofs.Judged.{accepted}
+use Rattle.tda_inputs.proofs.Stops.{stop_given}
+use Rattle.tda_inputs.proofs.base.read_schema_file.Goals as goal
+
+pub returns-in-Ok-clause-file : goal.returns-in-Ok-clause-file
+returns-in-Ok-clause-file g c =
+    accepted (limit_of file.Schema) (codes "schema") schema_text schema.read _ _ _ _ _ c.in_ok-bytes.ensures.bytes c.in_ok-bytes.ensures.limit c.deref.ensures.value c.in-Ok.ensures.value
+
+pub returns-clause-file : goal.returns-clause-file
+returns-clause-file g c =
+    stop_given (map string_bytes c.args.words.now) file.Schema schema_text schema.read _ _ _ _ _ _ c.schema_stop.ensures c.in_ok-bytes.ensures.bytes c.in_ok-bytes.ensures.limit c.deref.ensures.value c.in-Err.ensures.value

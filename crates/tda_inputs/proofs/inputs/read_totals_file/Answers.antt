@@ -1,0 +1,20 @@
+use Rattle.std.proofs.Common.{codes, map, string_bytes}
+use Rattle.tda_invar.specs.Totals as totals
+use Rattle.tda_refusal.specs.Refusal.{totals_text}
+use Rattle.tda_inputs.specs.declared.reading.File.TheVariants as file
+use Rattle.tda_inputs.specs.Files.{limit_of}
+use Rattle.tda_inputs.proofs.Judged.{accepted}
+use Rattle.tda_inputs.proofs.Stops.{stop_given}
+use Rattle.tda_inputs.proofs.FaultUnits.{totals_name}
+use Rattle.tda_inputs.proofs.inputs.read_totals_file.Goals as goal
+
+pub returns-in-Ok-clause-file : goal.returns-in-Ok-clause-file
+returns-in-Ok-clause-file g c =
+    accepted (limit_of file.Totals) (codes "totals") (totals_text c.args.spine.now) (totals.read c.args.spine.now) _ _ _ _ _ c.in_ok-bytes.ensures.bytes c.in_ok-bytes.ensures.limit c.deref.ensures.value c.in-Ok.ensures.given
+
+pub returns-clause-file : goal.returns-clause-file
+returns-clause-file g c =
+    stop_given (map string_bytes c.args.words.now) file.Totals (totals_text c.args.spine.now) (totals.read c.args.spine.now) _ _ _ _ _ _ c.totals_stop.ensures c.in_ok-bytes.ensures.bytes c.in_ok-bytes.ensures.limit c.deref.ensures.value c.in-Err.ensures.given
+
+pub totals_stop-requires : goal.totals_stop-requires
+totals_stop-requires g c = totals_name c.args.schema.now c.args.spine.now _ _ c.in-Err.ensures.given

@@ -1,9 +1,0 @@
-use Rattle.std.proofs.Common.{refl, inr}
-use Rattle.tda_invar.specs.declared.fac_fault.FacFault.TheVariants.{NoMemory}
-use Rattle.tda_refusal.specs.Refusal.{facilities_text}
-use Rattle.tda_tool.specs.declared.reading.File.TheVariants as file
-use Rattle.tda_tool.proofs.Judged.{stop_by}
-use Rattle.tda_tool.proofs.base.facilities_stop.Goals as goal
-
-pub returns-in_default : goal.returns-in_default
-returns-in_default c = stop_by NoMemory file.Facilities facilities_text c.args.fault _ c.in_default.not-NoMemory c.refused.ensures (inr (c.args.fault, c.in_default.not-NoMemory, refl))
