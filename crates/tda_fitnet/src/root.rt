@@ -1,8 +1,9 @@
 // The network of the nation's fit.
-ghost use Rattle.std.specs.Prelude.{◌≡◌, ℕ, ◌+◌, ◌*◌, ◌<◌, ◌≤◌, ◌^◌, ◌++◌, [], ℤ, List, length, slice_index, All, IfOk, OnOk};
+ghost use Rattle.std.specs.Prelude.{◌≡◌, ℕ, ◌+◌, ◌*◌, ◌<◌, ◌≤◌, ◌^◌, ◌++◌, [], ℤ, List, length, slice_index, All, IfOk, OnOk, None};
 ghost use Rattle.tda_model.specs.Bounds.{persons_limit};
 ghost use Rattle.tda_model.specs.Schema as model;
 ghost use Rattle.tda_model.specs.Groups.{kind_count};
+ghost use Rattle.tda_model.specs.Sizes.{fit_size};
 ghost use Rattle.tda_model.specs.Spine as model_spine;
 ghost use Rattle.tda_model.specs.Spine.{IsUnit, level_of, units_at, nation_of};
 ghost use Rattle.tda_schema.specs.Stated.{level_at};
@@ -15,12 +16,14 @@ ghost use Rattle.tda_fitnet.specs.Layout.{node_number, arc_number};
 ghost use Rattle.tda_fitnet.specs.Inputs.{inputs_of};
 ghost use Rattle.tda_fitnet.specs.Arcs as spec;
 ghost use Rattle.tda_fitnet.specs.Rows.{total_arcs, state_shares, all_shares, nation_gives, nation_groups};
-ghost use Rattle.tda_fitnet.specs.Fits.{RootAs};
-ghost use Rattle.tda_fitnet.specs.FitNetwork.{root_fit};
+ghost use Rattle.tda_fitnet.specs.Fits.{RootAs, IsRootNet};
+ghost use Rattle.tda_fitnet.specs.FitNetwork.{net_at, root_fit, size_of};
 
 use crate::arcs::{push_give, push_group, push_source};
+use crate::first_place::{level_first, unit_first};
 use crate::fit_net::FitNet;
 use crate::layout::Layout;
+use crate::level_terms::level_terms;
 use crate::name::ArcName;
 use crate::named_net::NamedNet;
 use std::alloc::Global;
@@ -136,6 +139,7 @@ fn push_nation_gives(
 
 // The arcs of the nation's groups.
 fn push_nation_groups(
+    alloc: Global,
     fit: &mut NamedNet,
     schema: &Schema,
     spine: &Spine,
@@ -156,8 +160,10 @@ fn push_nation_groups(
 {
     let base = layout.first_group(0);
     let nation = spine.nation();
+    let terms = level_terms(alloc, schema, 0, tree)?;
+    let first = unit_first(schema, spine, level_first(schema, spine, 0), nation);
     for group in 0..tree.len() {
-        push_group(fit, schema, spine, tree, m, base, nation, group, 0, PERSONS)?;
+        push_group(fit, tree, &terms, m, first, base, nation, group, 0, PERSONS)?;
     }
     Ok(())
 }
@@ -185,6 +191,7 @@ fn root_layout(schema: &Schema, tree: &GroupTree, spine: &Spine) -> Layout
 
 // All arcs of the nation's fit, into a net that has none.
 fn push_root(
+    alloc: Global,
     fit: &mut NamedNet,
     schema: &Schema,
     tree: &GroupTree,
@@ -207,7 +214,7 @@ fn push_root(
     push_totals(fit, spine, inv)?;
     push_shares(fit, schema, spine, inv, layout)?;
     push_nation_gives(fit, schema, tree, layout, spine.nation())?;
-    push_nation_groups(fit, schema, spine, tree, m, layout)
+    push_nation_groups(alloc, fit, schema, spine, tree, m, layout)
 }
 
 /// The network of the nation's fit: a table for the nation, with shares of each state and kind. The tree is that of
@@ -226,10 +233,12 @@ pub fn root_net(
     requires tree { IsTreeOf schema.now (level_at schema.now 0) tree.now }
     ensures fit { IfOk result (λ f. f ≡ root_fit (inputs_of schema.now spine.now inv.now m.now) tree.now.groups) }
     ensures tables { OnOk result (RootAs (inputs_of schema.now spine.now inv.now m.now) tree.now.groups) }
+    ensures own_tables { IfOk result (λ f. IsRootNet (inputs_of schema.now spine.now inv.now m.now) tree.now.groups (net_at f)) }
+    ensures size { IfOk result (λ f. size_of f ≡ fit_size schema.now spine.now None) }
 {
     let layout = root_layout(schema, tree, spine);
     let mut named = NamedNet::new(alloc, layout.nodes());
-    push_root(&mut named, schema, tree, spine, inv, m, layout)?;
+    push_root(alloc, &mut named, schema, tree, spine, inv, m, layout)?;
     let cells = tree.members(0).to_vec(alloc)?;
     let fit = FitNet::new(layout, named, cells, schema.cells());
     let _ = fit.net();
