@@ -60,7 +60,8 @@ pub(crate) fn push_give(
     requires room { length fit.old.arcs < 2 ^ 20 }
     ensures nodes { OnOk result (fit.new.nodes ≡ fit.old.nodes) }
     ensures count { OnOk result (length fit.new.arcs ≡ length fit.old.arcs + 1) }
-    ensures arcs { (l : Layout) (u : ℕ) → base ≡ group_node l u 0 → OnOk result (fit.new.arcs ≡ fit.old.arcs ++ give_arc l tree.now.groups from u unit cell ∷ []) }
+    ensures arcs { (l : Layout) (u : ℕ) → base ≡ group_node l u 0 →
+        OnOk result (fit.new.arcs ≡ fit.old.arcs ++ give_arc l tree.now.groups from u unit cell ∷ []) }
 {
     let arc = Arc {
         from,
@@ -86,8 +87,8 @@ pub(crate) fn kind_of_group(schema: &Schema, tree: &GroupTree, group: u32) -> Op
     }
 }
 
-// The term of a query at a unit's group, where a class of the query has just the group's cells. The unit's places begin at
-// index `first`.
+// The term of a query at a unit's group, where a class of the query has just the group's cells. The unit's places
+// begin at index `first`.
 fn push_query_term(
     fit: &mut NamedNet,
     terms: &LevelTerms,
@@ -96,10 +97,20 @@ fn push_query_term(
     query: usize,
     group: u32,
 ) -> Result<(), NoMemory>
-    requires ready { (s : model.Schema) × (sp : model_spine.Spine) × (t : Tree) × (unit : ℕ) × AreTermsAt s sp t terms.now m.now unit first × (group < length t.groups) }
+    requires ready { (s : model.Schema) × (sp : model_spine.Spine) × (t : Tree) × (unit : ℕ) ×
+        AreTermsAt s sp t terms.now m.now unit first × (group < length t.groups) }
     requires query { query < length terms.now.places }
-    requires last { (before : List NamedArc) × (last : NamedArc) × (fit.old.arcs ≡ before ++ last ∷ []) × (length last.terms < 8) }
-    ensures { (s : model.Schema) (sp : model_spine.Spine) (t : Tree) (unit : ℕ) → AreTermsAt s sp t terms.now m.now unit first → group < length t.groups → (inv : JoinedLists) (before : List NamedArc) (last : NamedArc) → fit.old.arcs ≡ before ++ last ∷ [] → OnOk result (fit.new ≡ record { nodes = fit.old.nodes; arcs = before ++ with_terms last (query_terms (inputs_of s sp inv m.now) unit query (query_at s (level_of sp unit) query) (group_at t.groups group)) ∷ [] }) }
+    requires last { (before : List NamedArc) × (last : NamedArc) × (fit.old.arcs ≡ before ++ last ∷ []) ×
+        (length last.terms < 8) }
+    ensures { (s : model.Schema) (sp : model_spine.Spine) (t : Tree) (unit : ℕ) →
+        AreTermsAt s sp t terms.now m.now unit first → group < length t.groups →
+        (inv : JoinedLists) (before : List NamedArc) (last : NamedArc) → fit.old.arcs ≡ before ++ last ∷ [] →
+        OnOk result (fit.new ≡ record {
+          nodes = fit.old.nodes;
+          arcs = before ++ with_terms last
+              (query_terms (inputs_of s sp inv m.now) unit query (query_at s (level_of sp unit) query)
+              (group_at t.groups group)) ∷ [];
+        }) }
 {
     if let Some(place) = terms.place(query, group) {
         fit.push_term(Term {
@@ -118,9 +129,19 @@ fn push_terms(
     first: u64,
     group: u32,
 ) -> Result<(), NoMemory>
-    requires ready { (s : model.Schema) × (sp : model_spine.Spine) × (t : Tree) × (unit : ℕ) × AreTermsAt s sp t terms.now m.now unit first × (group < length t.groups) }
-    requires last { (before : List NamedArc) × (last : NamedArc) × (fit.old.arcs ≡ before ++ last ∷ []) × (last.terms ≡ []) }
-    ensures { (s : model.Schema) (sp : model_spine.Spine) (t : Tree) (unit : ℕ) → AreTermsAt s sp t terms.now m.now unit first → group < length t.groups → (inv : JoinedLists) (before : List NamedArc) (last : NamedArc) → fit.old.arcs ≡ before ++ last ∷ [] → OnOk result (fit.new ≡ record { nodes = fit.old.nodes; arcs = before ++ with_terms last (terms_of (inputs_of s sp inv m.now) (level_at s (level_of sp unit)) unit (group_at t.groups group)) ∷ [] }) }
+    requires ready { (s : model.Schema) × (sp : model_spine.Spine) × (t : Tree) × (unit : ℕ) ×
+        AreTermsAt s sp t terms.now m.now unit first × (group < length t.groups) }
+    requires last { (before : List NamedArc) × (last : NamedArc) × (fit.old.arcs ≡ before ++ last ∷ []) ×
+        (last.terms ≡ []) }
+    ensures { (s : model.Schema) (sp : model_spine.Spine) (t : Tree) (unit : ℕ) →
+        AreTermsAt s sp t terms.now m.now unit first → group < length t.groups →
+        (inv : JoinedLists) (before : List NamedArc) (last : NamedArc) → fit.old.arcs ≡ before ++ last ∷ [] →
+        OnOk result (fit.new ≡ record {
+          nodes = fit.old.nodes;
+          arcs = before ++ with_terms last
+              (terms_of (inputs_of s sp inv m.now) (level_at s (level_of sp unit)) unit
+              (group_at t.groups group)) ∷ [];
+        }) }
 {
     for query in 0..terms.queries() {
         push_query_term(fit, terms, m, first, query, group)?;
@@ -134,7 +155,8 @@ fn end_of(tree: &GroupTree, base: u32, group: u32) -> u32
     requires groups { AreGroups tree.now.groups }
     requires base { base + length tree.now.groups ≤ 65536 }
     ensures low { result ≤ base + group }
-    ensures node { (l : Layout) (u : ℕ) → base ≡ group_node l u 0 → result ≡ group_end l tree.now.groups u group }
+    ensures node { (l : Layout) (u : ℕ) → base ≡ group_node l u 0 →
+        result ≡ group_end l tree.now.groups u group }
 {
     match tree.next(group) {
         Some(next) => base + next,
@@ -155,7 +177,8 @@ pub(crate) fn push_group(
     low: u64,
     high: u64,
 ) -> Result<(), NoMemory>
-    requires ready { (s : model.Schema) × (sp : model_spine.Spine) × AreTermsAt s sp tree.now terms.now m.now unit first }
+    requires ready { (s : model.Schema) × (sp : model_spine.Spine) ×
+        AreTermsAt s sp tree.now terms.now m.now unit first }
     requires group { group < length tree.now.groups }
     requires nodes { base + length tree.now.groups ≤ fit.old.nodes }
     requires nodes_limit { fit.old.nodes ≤ 65536 }
@@ -164,7 +187,11 @@ pub(crate) fn push_group(
     requires limit { high ≤ persons_limit }
     ensures nodes { OnOk result (fit.new.nodes ≡ fit.old.nodes) }
     ensures count { OnOk result (length fit.new.arcs ≡ length fit.old.arcs + 1) }
-    ensures arcs { (s : model.Schema) (sp : model_spine.Spine) → AreTermsAt s sp tree.now terms.now m.now unit first → (inv : JoinedLists) (l : Layout) (u : ℕ) → base ≡ group_node l u 0 → OnOk result (fit.new.arcs ≡ fit.old.arcs ++ group_arc (inputs_of s sp inv m.now) l tree.now.groups (level_at s (level_of sp unit)) u unit group low high ∷ []) }
+    ensures arcs { (s : model.Schema) (sp : model_spine.Spine) →
+        AreTermsAt s sp tree.now terms.now m.now unit first → (inv : JoinedLists) (l : Layout) (u : ℕ) →
+        base ≡ group_node l u 0 → OnOk result
+        (fit.new.arcs ≡ fit.old.arcs ++ group_arc (inputs_of s sp inv m.now) l tree.now.groups
+        (level_at s (level_of sp unit)) u unit group low high ∷ []) }
 {
     let name = ArcName::Group { unit, group };
     let arc = Arc {

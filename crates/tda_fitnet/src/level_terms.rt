@@ -11,8 +11,8 @@ use tda_groups::GroupTree;
 use tda_io::NoMemory;
 use tda_schema::Schema;
 
-/// For each query of a level its weight, and for each group the class that has just the group's cells: where the class's place stands
-/// among the places of a unit.
+/// For each query of a level its weight, and for each group the class that has just the group's cells: where the
+/// class's place stands among the places of a unit.
 #[derive(Drop)]
 pub(crate) struct LevelTerms {
     weights: Vec<u64>,
@@ -28,8 +28,8 @@ impl Model for LevelTerms {
     ghost view = { λ t. record { weights = t.weights.items; places = map (λ row. row.items) t.places.items } };
 }
 
-// For each group where the class of a query that has just the group's cells stands among a unit's places, and None where no class
-// has them. So many places stand before those of the query.
+// For each group where the class of a query that has just the group's cells stands among a unit's places, and None
+// where no class has them. So many places stand before those of the query.
 fn query_places(
     alloc: Global,
     schema: &Schema,
@@ -43,7 +43,8 @@ fn query_places(
     requires tree { IsTreeOf schema.now (level_at schema.now level) tree.now }
     requires before { before ≡ before_query schema.now level query }
     requires few { before ≤ query * 4096 }
-    ensures { IfOk result (λ row. IsRowOf schema.now level tree.now.groups query (class_count schema.now level query) row.items) }
+    ensures { IfOk result (λ row. IsRowOf schema.now level tree.now.groups query
+        (class_count schema.now level query) row.items) }
 {
     // There are at most 8 queries and 4,096 cells.
     let _ = schema.queries(level);
@@ -95,7 +96,8 @@ impl LevelTerms {
         self.weights[query]
     }
 
-    /// Where the class of a query that has just the cells of a group stands among a unit's places, and None where no class has them.
+    /// Where the class of a query that has just the cells of a group stands among a unit's places, and None where no
+    /// class has them.
     pub(crate) fn place(&self, query: usize, group: u32) -> Option<u32>
         requires query { query < length self.now.places }
         requires group { group < length (row_at self.now query) }
