@@ -1,5 +1,5 @@
 -- What is known of the counts and shares that are read off a circulation of the nation's fit.
-use Rattle.std.proofs.Common.{◌≡◌, ℕ, ◌+◌, ◌<◌, ◌≤◌, ◌==◌, length-append, ℤ, List, [], ◌∷◌, ◌++◌, length, map, slice_index, sym, ap, ◌∙◌, subst, arith}
+use Rattle.std.proofs.Common.{◌≡◌, ℕ, ◌<◌, ◌==◌, length-append, ℤ, List, [], ◌++◌, length, map, slice_index, sym, ap, ◌∙◌, subst, arith}
 use Rattle.std.specs.List.{range_with_len}
 use Rattle.std.proofs.lemmas.List.{get_or_append_left, length-map}
 use Rattle.std.proofs.lemmas.List.FromFn.{length-map-range_with_len, get_or-map-range_with_len}
@@ -7,9 +7,6 @@ use Rattle.tda_model.specs.Schema.{Schema}
 use Rattle.tda_model.specs.Cells.{cell_count, kind_of, all_cells}
 use Rattle.tda_model.specs.Spine.{Spine, nation_of}
 use Rattle.tda_model.specs.Tables.{Table, Published, kind_sum, persons_in, Attainable}
-use Rattle.tda_model.specs.Bounds.{persons_limit}
-use Rattle.tda_model.specs.First.{family_counts}
-use Rattle.tda_model.specs.Release.{Inputs}
 use Rattle.tda_model.proofs.Sums.{sum_same, each_filter, each_range}
 use Rattle.tda_invar.specs.Known.{JoinedLists, IsJoined, known_of}
 use Rattle.tda_invar.proofs.Existence.{always}

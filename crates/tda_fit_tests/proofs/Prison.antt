@@ -1,6 +1,6 @@
 -- A nation of two levels, whose states are blocks, with a prison in the first: no table with all hundred persons in prison can be had,
 -- fifty and fifty can, and of all that can be had it's the least, at 5000.
-use Rattle.std.proofs.Common.{◌≡◌, ◌==◌, ℕ, ℤ, suc, zero, ◌+◌, ◌*◌, ◌<◌, ◌≤◌, ◌&&◌, ◌-ℤ◌, nat_abs, false, cond, pos, List, [], ◌∷◌, codes, sum_by, Some, None, refl, sym, ap, ◌∙◌, subst, arith}
+use Rattle.std.proofs.Common.{◌≡◌, ◌==◌, ℕ, ℤ, suc, zero, ◌+◌, ◌*◌, ◌<◌, ◌≤◌, ◌-ℤ◌, nat_abs, false, cond, pos, List, [], ◌∷◌, codes, sum_by, Some, None, refl, sym, ap, ◌∙◌, subst, arith}
 use Rattle.std.proofs.lemmas.List.Elements.{All-from_recursion}
 use Rattle.std.proofs.lemmas.Int.{ints}
 use Rattle.std.proofs.Math.Nat.{mul-le-mul}
@@ -11,7 +11,7 @@ use Rattle.tda_model.specs.Deviation.{square}
 use Rattle.tda_model.specs.Least.{LeastRoot}
 use Rattle.tda_model.specs.Release.{Inputs, CanBe, deviation_at}
 use Rattle.tda_model.specs.Spine.{Spine, SpineUnit, nation_of, blocks_of, states_of}
-use Rattle.tda_model.specs.Tables.{Table, Tables, Published, kind_sum, persons_in, FitsBlock, Shows}
+use Rattle.tda_model.specs.Tables.{Table, Tables, Published, kind_sum, persons_in, FitsBlock}
 
 abbrev kinds : Query
 kinds = record { name = codes "kind"; by = Attribute_values 0 ∷ []; only = []; share = record { num = 1; den = 1 } }
