@@ -2,6 +2,8 @@
 #![tactic(auto)]
 
 #[cfg(test)]
+mod nations;
+#[cfg(test)]
 mod nets;
 #[cfg(test)]
 mod starts;

@@ -1,5 +1,6 @@
 pub mod Layout
 pub mod Terms
+pub mod TermTable
 pub mod Arcs
 pub mod Fits
 pub mod NamedNetwork
