@@ -92,6 +92,9 @@ fn query_deviation<F: Fn(i64) -> i128>(
     ensures limit { result ≤ 2 ^ 100 }
 {
     let level = spine.level(unit);
+    // There are at most 8 queries and 4,096 cells.
+    let _ = schema.queries(level);
+    let _ = schema.cells();
     let weight = schema.weight(level, query);
     let mut sum = 0;
     for class in schema.classes(level, query) {
