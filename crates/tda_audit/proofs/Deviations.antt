@@ -5,6 +5,7 @@ use Rattle.std.specs.Int.{w64, w128}
 use Rattle.std.specs.List.{sum_by, range_with_len}
 use Rattle.std.proofs.lemmas.Int.{ints, to_z-of_z}
 use Rattle.std.proofs.lemmas.List.{take_more}
+use Rattle.std.proofs.lemmas.List.Elements.{recursion_from_All}
 use Rattle.std.proofs.lemmas.List.Sums.{sum_by_push}
 use Rattle.std.proofs.Math.Nat.{mul-le-mul}
 use Rattle.tda_model.specs.Schema.{Schema, Query}
@@ -12,8 +13,9 @@ use Rattle.tda_model.specs.Bounds.{persons_limit}
 use Rattle.tda_model.specs.Cells.{cell_count, is_possible, is_listed, all_cells, possible_cells}
 use Rattle.tda_model.specs.Groups.{class_cells, scope_cells, is_class, classes_of}
 use Rattle.tda_model.specs.Tables.{Table, persons_in}
-use Rattle.tda_model.proofs.Sums.{sum_filter_le}
-use Rattle.tda_sets.proofs.Members.{passing_below, Contains-unfiltered}
+use Rattle.tda_model.specs.Deviation.{weight_of, query_deviation, deviation_from}
+use Rattle.tda_model.proofs.Sums.{sum_filter_le, sum_same}
+use Rattle.tda_sets.proofs.Members.{passing_below, Contains-unfiltered, All-from_Contains}
 use Rattle.tda_sets.proofs.Ranges.{filter-filter}
 use Rattle.tda_schema.specs.Stated.{class_of}
 use Rattle.tda_groups.proofs.Classes.{scope_is, class_names, named_is}
@@ -71,3 +73,28 @@ module _ (s : Schema) (q : Query) (over_all : q.only ≡ []) (x : Table) where
 pub class_low : (s : Schema) (q : Query) (c : ℕ) → Contains (classes_of s q) c → c < cell_count s
 class_low s q c found =
     passing_below (is_possible s) (cell_count s) c (Contains-unfiltered (is_listed s q.only) (possible_cells s) c (Contains-unfiltered (is_class s q) (scope_cells s q) c found))
+
+-- ---- over the queries of a level
+module _ (curve : ℤ → ℕ) (s : Schema) (common : ℕ) (measured : ℕ → ℕ → ℤ) (x : Table) where
+  pub deviation_more : (n : ℕ) (qs : List Query) (k : ℕ) (d : Query) → k < length qs
+      → deviation_from curve s common n (take (k + 1) qs) measured x ≡ deviation_from curve s common n (take k qs) measured x + query_deviation curve s common (get_or qs k d) (measured (n + k)) x
+  deviation_more n [] k d low = absurd (omega arith)
+  deviation_more n (q ∷ qs) zero d low =
+      let e : zero + 1 ≡ suc zero = omega arith in
+      let z : n + 0 ≡ n = omega arith in
+      let first = query_deviation curve s common q (measured n) x in
+      let none : first + 0 ≡ 0 + first = omega arith in
+      ap (λ m. deviation_from curve s common n (take m (q ∷ qs)) measured x) e ∙ none ∙ ap (λ m. 0 + query_deviation curve s common q (measured m) x) (sym z)
+  deviation_more n (q ∷ qs) (suc k) d low =
+      let e : suc k + 1 ≡ suc (k + 1) = omega arith in
+      let z : n + 1 + k ≡ n + suc k = omega arith in
+      let rest = deviation_more (n + 1) qs k d (omega arith) in
+      let at = ap (λ m. query_deviation curve s common (get_or qs k d) (measured m) x) z in
+      ap (λ m. deviation_from curve s common n (take m (q ∷ qs)) measured x) e ∙ omega (arith, rest, at)
+
+  -- a query by counts of its classes
+  pub by_counts : (q : Query) (own : ℕ → ℤ) (counts : List ℕ) → ((c : ℕ) → Contains (classes_of s q) c → get_or counts c 0 ≡ sum_by x (class_cells s q c))
+      → sum_by (λ c. weight_of common q * curve (pos (get_or counts c 0) -ℤ own c)) (classes_of s q) ≡ query_deviation curve s common q own x
+  by_counts q own counts are =
+      sum_same (λ c. weight_of common q * curve (pos (get_or counts c 0) -ℤ own c)) (λ c. weight_of common q * curve (pos (sum_by x (class_cells s q c)) -ℤ own c)) (classes_of s q)
+      (recursion_from_All _ (classes_of s q) (All-from_Contains _ (classes_of s q) (λ c found. ap (λ n. weight_of common q * curve (pos n -ℤ own c)) (are c found))))
