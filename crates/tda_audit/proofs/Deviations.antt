@@ -1,5 +1,5 @@
 -- What is added up to a deviation.
-use Rattle.std.proofs.Common.{◌≡◌, ℕ, zero, suc, ◌+◌, ◌*◌, ◌<◌, ◌≤◌, ◌^◌, ◌==◌, ◌&&◌, ℤ, pos, negsuc, ◌-ℤ◌, ◌*ℤ◌, ◌≤ℤ◌, Bool, true, false, List, [], ◌∷◌, length, get_or, take, filter, All, Contains, to_z, of_z, FitsSigned, refl, sym, ap, ◌∙◌, subst, arith}
+use Rattle.std.proofs.Common.{◌≡◌, ℕ, zero, suc, ◌+◌, ◌*◌, ◌<◌, ◌≤◌, ◌^◌, ◌==◌, ◌&&◌, ℤ, pos, negsuc, ◌-ℤ◌, ◌≤ℤ◌, Bool, List, [], ◌∷◌, length, get_or, take, filter, Contains, to_z, of_z, FitsSigned, refl, sym, ap, ◌∙◌, subst, arith}
 use Rattle.std.specs.Prelude.{nat_abs}
 use Rattle.std.specs.Int.{w64, w128}
 use Rattle.std.specs.List.{sum_by, range_with_len}
@@ -25,7 +25,7 @@ use Rattle.tda_loss.specs.Curve.{IsWithin, value_of}
 use Rattle.tda_loss.proofs.Laws.{value_of-within}
 use Rattle.tda_fitnet.specs.Fits.{curve_of}
 use Rattle.tda_audit.proofs.Limits.{near_within}
-use Rattle.tda_audit.proofs.SumsBy.{AreSums, part}
+use Rattle.tda_audit.proofs.SumsBy.{part}
 
 product : (w : ℕ) (v : ℤ) (n : ℕ) → pos 0 ≤ℤ v → v ≤ℤ pos n → w ≤ 2 ^ 24 → n ≤ 2 ^ 64 → w * nat_abs v ≤ 2 ^ 88
 product w (pos k) n low high few most = let b : k ≤ 2 ^ 64 = omega (arith, ints, high) in omega (arith, mul-le-mul few b)

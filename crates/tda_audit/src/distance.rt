@@ -29,7 +29,12 @@ const CELLS: usize = 4096;
 
 // How far a class's persons are from their measurement, by the weight of the query. The distance is at most 2^32 and the
 // curve's value at most 2^64.
-fn class_deviation<F: Fn(i64) -> i128>(weight: u64, target: i64, loss: &Loss<F>, persons: u64) -> u128
+fn class_deviation<F: Fn(i64) -> i128>(
+    weight: u64,
+    target: i64,
+    loss: &Loss<F>,
+    persons: u64,
+) -> u128
     requires weight { weight ≤ 2 ^ 24 }
     requires target { IsWithinLimit target }
     requires kept { IsKept F.pre F.post loss.now }

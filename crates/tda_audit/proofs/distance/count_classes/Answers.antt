@@ -1,4 +1,4 @@
-use Rattle.std.proofs.Common.{◌≡◌, ℕ, ◌+◌, ◌<◌, ◌≤◌, ◌^◌, ◌==◌, ◌&&◌, [], length, get_or, set, refl, sym, ap, ◌∙◌, subst, ne_eqb, eq-eqb, arith}
+use Rattle.std.proofs.Common.{◌≡◌, ◌+◌, ◌≤◌, ◌^◌, ◌==◌, ◌&&◌, [], get_or, set, refl, sym, ap, ◌∙◌, subst, ne_eqb, eq-eqb, arith}
 use Rattle.tda_schema.specs.Stated.{query_at}
 use Rattle.tda_schema.specs.Stated.{class_of}
 use Rattle.std.proofs.lemmas.List.{get_or_default}

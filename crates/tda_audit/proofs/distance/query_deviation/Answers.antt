@@ -1,11 +1,10 @@
 -- One class more.
-use Rattle.std.proofs.Common.{◌≡◌, ℕ, ◌+◌, ◌*◌, ◌<◌, ◌≤◌, List, pos, ◌-ℤ◌, length, get_or, take, Contains, refl, sym, ap, ◌∙◌, subst, arith}
+use Rattle.std.proofs.Common.{◌≡◌, ℕ, ◌*◌, ◌<◌, ◌≤◌, pos, ◌-ℤ◌, length, get_or, Contains, ap, ◌∙◌, subst, arith}
 use Rattle.std.specs.List.{sum_by}
 use Rattle.std.proofs.lemmas.List.{take_all}
 use Rattle.std.proofs.lemmas.List.Elements.{Contains-get_or}
 use Rattle.tda_model.specs.Commons.{common_of}
 use Rattle.tda_model.specs.Deviation.{weight_of}
-use Rattle.tda_model.specs.Cells.{cell_count, is_possible}
 use Rattle.tda_model.specs.Groups.{classes_of}
 use Rattle.tda_model.specs.Spine.{level_of}
 use Rattle.tda_schema.specs.Stated.{queries_at, query_at}
