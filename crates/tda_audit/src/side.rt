@@ -5,8 +5,8 @@ ghost use Rattle.tda_audit.specs.Verdicts.{failing};
 
 use tda_flow::Side;
 
-// The side on which an arc fails first: up, where one more person may be had and costs less than the price rises, or down,
-// where one may go and cost more. `up` and `down` are what one more person costs, and what the last one did.
+// The side on which an arc fails first: up, where one more person may be had and costs less than the price rises, or
+// down, where one may go and cost more. `up` and `down` are what one more person costs, and what the last one did.
 pub(crate) fn failing_side(
     low: u64,
     high: u64,
