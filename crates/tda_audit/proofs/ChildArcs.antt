@@ -1,11 +1,10 @@
 -- The arcs of a unit's children, and their prices in the split.
-use Rattle.std.proofs.Common.{◌≡◌, ℕ, ℤ, pos, ◌+◌, ◌*◌, ◌<◌, ◌≤◌, List, Some, length, get_or, sym, ap, ◌∙◌, subst, arith}
+use Rattle.std.proofs.Common.{◌≡◌, ℕ, ℤ, pos, ◌+◌, ◌*◌, ◌<◌, List, Some, length, get_or, sym, ap, ◌∙◌, subst, arith}
 use Rattle.tda_model.specs.Schema.{Schema}
 use Rattle.tda_model.specs.Spine.{Spine, IsUnit, IsTree, level_of, nation_of, children_of}
 use Rattle.tda_schema.specs.Stated.{level_at}
 use Rattle.tda_groups.specs.Tree.{Tree, IsTreeOf}
 use Rattle.tda_prices.specs.Items.{Pricing}
-use Rattle.tda_audit.specs.Certified.{level_groups}
 use Rattle.tda_audit.specs.Prices.{AreGroupPrices, AreChildPrices}
 use Rattle.tda_audit.proofs.Children.{child_is}
 

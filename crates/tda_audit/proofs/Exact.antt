@@ -9,20 +9,17 @@ use Rattle.tda_model.specs.Cells.{cell_count, kind_of, all_cells}
 use Rattle.tda_model.specs.Groups.{kind_count}
 use Rattle.tda_model.specs.Spine.{Spine, level_of, nation_of, children_of, blocks_of, units_at, IsUnit, HasParent, IsTree}
 use Rattle.tda_model.specs.Tables.{Table, Tables, kind_sum, persons_in, FitsBlock, Attainable, Published}
-use Rattle.tda_model.specs.Least.{IsFamily}
 use Rattle.tda_model.specs.Bounds.{persons_limit, low, high, MostHolds, HasKinds}
 use Rattle.tda_model.specs.Release.{Inputs, CanBe}
 use Rattle.tda_model.proofs.Sums.{Each, sum_le, sum_filter_le, each_weaker}
 use Rattle.tda_model.proofs.Attain.{kinds_add, high_is, attains_in_bounds}
-use Rattle.tda_schema.specs.Stated.{level_at}
 use Rattle.tda_loss.specs.declared.Curve.{Curve}
 use Rattle.tda_loss.specs.Curve.{value_of}
 use Rattle.tda_loss.proofs.Laws.{IsCurve-value_of}
 use Rattle.tda_flow.specs.Certificate.{IsCertified}
 use Rattle.tda_flow.proofs.Same.{same_certified}
-use Rattle.tda_groups.specs.Tree.{Tree, IsTreeOf}
-use Rattle.tda_fitnet.specs.Arcs.{root_network, split_network}
-use Rattle.tda_fitnet.specs.Fits.{curve_of, AreShares, root_flow, split_flow}
+use Rattle.tda_fitnet.specs.Arcs.{root_network}
+use Rattle.tda_fitnet.specs.Fits.{curve_of, root_flow}
 use Rattle.tda_fitnet.proofs.NationShares.{attains_vanishes, state_each}
 use Rattle.tda_fitnet.proofs.SplitLeast.{cost_by_curve}
 use Rattle.tda_fitnet.proofs.RootFit.{root_as, root_costs}

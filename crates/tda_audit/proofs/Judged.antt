@@ -8,12 +8,12 @@ use Rattle.tda_model.specs.Cells.{all_cells}
 use Rattle.tda_model.specs.Bounds.{persons_limit}
 use Rattle.tda_model.specs.Groups.{kind_count}
 use Rattle.tda_model.specs.Spine.{Spine, IsUnit, IsTree, nation_of, unit_numbers, units_at, parents_of}
-use Rattle.tda_model.specs.Tables.{Tables, persons_in}
+use Rattle.tda_model.specs.Tables.{Tables}
 use Rattle.tda_model.specs.Release.{Inputs}
 use Rattle.tda_model.proofs.Sums.{Each, each_any}
 use Rattle.tda_schema.specs.Stated.{level_at}
 use Rattle.tda_spine.specs.Judged.{is_inner, fits_of}
-use Rattle.tda_invar.specs.Known.{JoinedLists, IsJoined, known_of}
+use Rattle.tda_invar.specs.Known.{JoinedLists, IsJoined}
 use Rattle.tda_invar.proofs.Existence.{always}
 use Rattle.tda_loss.specs.declared.Curve.{Curve}
 use Rattle.tda_groups.specs.Tree.{Tree, IsTreeOf}

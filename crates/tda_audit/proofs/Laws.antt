@@ -1,14 +1,12 @@
 -- The laws of an audit: Yes means certified, what is certified is a release, and what fits hand on is certified.
-use Rattle.std.proofs.Common.{◌≡◌, ℕ, zero, suc, ◌<◌, ◌≤◌, List, [], ◌∷◌, length, get_or, map, All, Option, Some, None, ℤ, sym, ap, ◌∙◌, subst, arith}
+use Rattle.std.proofs.Common.{◌≡◌, ℕ, ◌≤◌, List, length, sym, arith}
 use Rattle.std.proofs.lemmas.List.Elements.{All-from_recursion}
 use Rattle.tda_model.specs.Spine.{nation_of, unit_numbers, IsTree}
 use Rattle.tda_model.specs.Tables.{Table, Tables, persons_in}
 use Rattle.tda_model.specs.Bounds.{persons_limit, MostHolds, HasKinds}
 use Rattle.tda_model.specs.Release.{Inputs, CanBe, IsRelease}
 use Rattle.tda_model.proofs.Sums.{each_range}
-use Rattle.tda_schema.specs.Stated.{level_at}
 use Rattle.tda_loss.specs.declared.Curve.{Curve}
-use Rattle.tda_groups.specs.Tree.{Tree, IsTreeOf}
 use Rattle.tda_fitnet.specs.Fits.{curve_of}
 use Rattle.tda_prices.specs.Items.{Pricing}
 use Rattle.tda_audit.specs.Certified.{level_groups, Certifies}

@@ -1,5 +1,5 @@
 -- What an audit is given keeps the limits that its laws ask for, and the prices of a release keep those of their file.
-use Rattle.std.proofs.Common.{◌≡◌, [], ◌∷◌, ℕ, zero, suc, ◌+◌, ◌*◌, ◌<◌, ◌≤◌, ◌^◌, List, length, get_or, ℤ, pos, negsuc, All, Some, None, Option, sym, ◌∙◌, subst, arith}
+use Rattle.std.proofs.Common.{◌≡◌, [], ◌∷◌, ℕ, zero, suc, ◌+◌, ◌*◌, ◌<◌, ◌≤◌, ◌^◌, List, length, get_or, ℤ, pos, negsuc, Some, None, Option, sym, ◌∙◌, subst, arith}
 use Rattle.tda_model.specs.Schema.{Schema}
 use Rattle.tda_model.specs.Cells.{possible_cells}
 use Rattle.tda_model.specs.Sizes.{groups_at}

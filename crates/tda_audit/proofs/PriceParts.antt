@@ -1,11 +1,10 @@
 -- The prices of a fit in parts: of its givers, and of the groups of its units.
-use Rattle.std.proofs.Common.{◌≡◌, ℕ, suc, ◌+◌, ◌-◌, ◌*◌, ◌<◌, ◌≤◌, ℤ, pos, ◌∷◌, List, Some, None, length, get_or, take, drop, map, refl, sym, ap, ◌∙◌, subst, arith, length-drop}
+use Rattle.std.proofs.Common.{◌≡◌, ℕ, suc, ◌+◌, ◌*◌, ◌<◌, ℤ, pos, ◌∷◌, List, Some, None, length, get_or, take, drop, sym, ap, ◌∙◌, arith, length-drop}
 use Rattle.std.proofs.lemmas.List.{get_or-take, get_or-drop, length-map, length-take-le}
-use Rattle.tda_model.specs.Schema.{Schema}
 use Rattle.tda_model.specs.Cells.{possible_cells}
 use Rattle.tda_model.specs.Groups.{kind_count}
 use Rattle.tda_model.specs.Sizes.{groups_at}
-use Rattle.tda_model.specs.Spine.{Spine, IsUnit, IsTree, level_of, nation_of, units_at, children_of}
+use Rattle.tda_model.specs.Spine.{IsTree, level_of, nation_of, units_at, children_of}
 use Rattle.tda_model.specs.Release.{Inputs}
 use Rattle.tda_model.proofs.Sums.{Each, each_weaker}
 use Rattle.tda_schema.specs.Stated.{level_at}

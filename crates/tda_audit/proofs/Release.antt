@@ -1,9 +1,8 @@
 -- What is certified is a release.
 use Rattle.std.proofs.Common.{◌≡◌, ℕ, ◌+◌, ◌<◌, ◌≤◌, List, ◌∷◌, length, pos, ◌∷◌, Some, None, refl, sym, ap, ◌∙◌, subst, arith}
-use Rattle.std.proofs.lemmas.List.Elements.{All-from_recursion}
 use Rattle.tda_model.specs.Schema.{Schema}
 use Rattle.tda_model.specs.Sizes.{groups_at}
-use Rattle.tda_model.specs.Spine.{level_of, nation_of, children_of, parents_of, IsUnit, IsTree}
+use Rattle.tda_model.specs.Spine.{level_of, nation_of, children_of, IsUnit, IsTree}
 use Rattle.tda_model.specs.Tables.{Table, Tables, persons_in}
 use Rattle.tda_model.specs.Least.{LeastRoot, LeastSplit}
 use Rattle.tda_model.specs.Bounds.{persons_limit, MostHolds, HasKinds}

@@ -1,5 +1,5 @@
 -- How much a price rises along an arc, and the cells that are given persons.
-use Rattle.std.proofs.Common.{◌≡◌, ℕ, ◌+◌, ◌<◌, ◌≤◌, ◌^◌, ℤ, pos, negsuc, ◌-ℤ◌, List, length, get_or, All, Option, Some, None, to_z, of_z, FitsSigned, cond, ◌==◌, inl, inr, eq-eqb, refl, sym, ap, ◌∙◌, arith}
+use Rattle.std.proofs.Common.{◌≡◌, ℕ, ◌<◌, ◌≤◌, ◌^◌, ℤ, pos, negsuc, ◌-ℤ◌, List, length, get_or, All, Option, Some, None, to_z, of_z, FitsSigned, cond, ◌==◌, inl, inr, eq-eqb, refl, sym, ap, ◌∙◌, arith}
 use Rattle.std.specs.Prelude.{nat_abs}
 use Rattle.std.specs.Int.{w128}
 use Rattle.std.proofs.lemmas.Int.{ints, to_z-of_z}

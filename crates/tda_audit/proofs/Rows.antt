@@ -1,5 +1,5 @@
 -- Tables, units and children as the code looks them up.
-use Rattle.std.proofs.Common.{◌≡◌, ℕ, ◌+◌, ◌<◌, ◌≤◌, List, [], length, get_or, filter, true, All, Contains, sym, ap, subst, arith}
+use Rattle.std.proofs.Common.{◌≡◌, ℕ, ◌<◌, ◌≤◌, List, [], length, get_or, true, All, Contains, ap, subst, arith}
 use Rattle.std.proofs.lemmas.List.Elements.{All-from_recursion}
 use Rattle.std.proofs.lemmas.List.Sums.{length-filter, count_by-le-length}
 use Rattle.std.proofs.lemmas.List.FromFn.{length-range_with_len}
@@ -42,8 +42,15 @@ module _ (s : Schema) (l : Level) (t : Tree) (is : IsTreeOf s l t) (g : ℕ) (lo
   pub group_cells_few : length (group_at t.groups g) ≤ cell_count s
   group_cells_few =
       let kept = ap length (group_kept t.groups is.groups (possible_cells s) is.whole g low) in
-      omega (arith, kept, length-filter (holds cells) (possible_cells s), count_by-le-length (holds cells) (possible_cells s),
-      length-filter (is_possible s) (all_cells s), count_by-le-length (is_possible s) (all_cells s), length-range_with_len 0 (cell_count s))
+      omega (
+        arith,
+        kept,
+        length-filter (holds cells) (possible_cells s),
+        count_by-le-length (holds cells) (possible_cells s),
+        length-filter (is_possible s) (all_cells s),
+        count_by-le-length (is_possible s) (all_cells s),
+        length-range_with_len 0 (cell_count s),
+      )
 
   pub group_cells_here : (sp : Spine) (counts : Counts) → AreCountsOf s sp counts → (u : ℕ) → IsUnit sp u → All (λ j. j < length (get_or counts u [])) (group_at t.groups g)
   group_cells_here sp counts are u here =

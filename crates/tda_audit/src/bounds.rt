@@ -61,7 +61,8 @@ fn kind_bounds(inv: &Invariants, unit: u32, kind: Option<u16>) -> Bounds
     }
 }
 
-// How many persons a state has, as the bounds of the group of all possible cells, and any number for other groups and units.
+// How many persons a state has, as the bounds of the group of all possible cells, and any number for other groups
+// and units.
 fn total_bounds(inv: &Invariants, unit: u32, group: u32) -> Bounds
     requires unit { unit < length inv.now.unit_totals }
     ensures low { (s : model.Schema) (sp : model_spine.Spine) → IsJoined s sp inv.now → result.low ≡ (if (group == 0) && is_at sp 1 unit then (known_of sp inv.now).total unit else 0) }
@@ -79,8 +80,8 @@ fn total_bounds(inv: &Invariants, unit: u32, group: u32) -> Bounds
     }
 }
 
-// The bounds of a unit's group in a split: a kind's, where it has just the cells of a kind, and a state's total, where it is
-// the group of all possible cells; both where both hold.
+// The bounds of a unit's group in a split: a kind's, where it has just the cells of a kind, and a state's total,
+// where it is the group of all possible cells; both where both hold.
 pub(crate) fn group_bounds(
     schema: &Schema,
     tree: &GroupTree,

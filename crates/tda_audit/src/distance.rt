@@ -27,9 +27,14 @@ use tda_spine::Spine;
 // As many cells as a schema may have.
 const CELLS: usize = 4096;
 
-// How far a class's persons are from their measurement, by the weight of the query. The distance is at most 2^32 and the
-// curve's value at most 2^64.
-fn class_deviation<F: Fn(i64) -> i128>(weight: u64, target: i64, loss: &Loss<F>, persons: u64) -> u128
+// How far a class's persons are from their measurement, by the weight of the query. The distance is at most 2^32 and
+// the curve's value at most 2^64.
+fn class_deviation<F: Fn(i64) -> i128>(
+    weight: u64,
+    target: i64,
+    loss: &Loss<F>,
+    persons: u64,
+) -> u128
     requires weight { weight ≤ 2 ^ 24 }
     requires target { IsWithinLimit target }
     requires kept { IsKept F.pre F.post loss.now }
@@ -92,6 +97,9 @@ fn query_deviation<F: Fn(i64) -> i128>(
     ensures limit { result ≤ 2 ^ 100 }
 {
     let level = spine.level(unit);
+    // There are at most 8 queries and 4,096 cells.
+    let _ = schema.queries(level);
+    let _ = schema.cells();
     let weight = schema.weight(level, query);
     let mut sum = 0;
     for class in schema.classes(level, query) {
@@ -137,9 +145,9 @@ fn unit_deviation<F: Fn(i64) -> i128>(
     sum
 }
 
-/// The deviation of all units together: over the classes of each query of a unit's level, the weight of the query times
-/// what the loss gives at the distance of the class's persons from their measurement. Each unit has at most 2^30 persons,
-/// so the sum is below 2^120. It takes no memory.
+/// The deviation of all units together: over the classes of each query of a unit's level, the weight of the query
+/// times what the loss gives at the distance of the class's persons from their measurement. Each unit has at most
+/// 2^30 persons, so the sum is below 2^120. It takes no memory.
 pub fn deviation<F: Fn(i64) -> i128>(
     schema: &Schema,
     spine: &Spine,

@@ -266,5 +266,7 @@ pub(crate) fn wrong_arc<F: Fn(i64) -> i128>(
     if let Some(verdict) = wrong {
         return Ok(Some(verdict));
     }
-    wrong_in_splits(&mut terms, schema, spine, trees, inv, m, tables, prices, loss)
+    wrong_in_splits(
+        &mut terms, schema, spine, trees, inv, m, tables, prices, loss,
+    )
 }

@@ -1,5 +1,5 @@
-// The arcs from givers to a unit's cells, judged. In the root fit kinds give the nation's cells their persons, in a split the
-// parent's cells give them to each child's.
+// The arcs from givers to a unit's cells, judged. In the root fit kinds give the nation's cells their persons, in a
+// split the parent's cells give them to each child's.
 ghost use Rattle.std.specs.Prelude.{◌≡◌, ◌<◌, ◌≤◌, ℤ, [], List, length, nat_abs, All, Contains, slice_index, slice_index_or};
 ghost use Rattle.tda_model.specs.Cells.{cell_count, possible_cells};
 ghost use Rattle.tda_model.specs.Groups.{kind_count};
@@ -29,7 +29,8 @@ use tda_io::PERSONS;
 use tda_out::Tables;
 use tda_schema::Schema;
 
-// The number of the giver of a possible cell, which is the cell of this rank: its kind in the root fit, the rank in a split.
+// The number of the giver of a possible cell, which is the cell of this rank: its kind in the root fit, the rank in
+// a split.
 fn giver(schema: &Schema, fit: Option<u32>, rank: usize, cell: u32) -> usize
     requires cell { cell < cell_count schema.now }
     requires rank { rank < length (possible_cells schema.now) }

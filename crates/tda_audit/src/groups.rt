@@ -89,7 +89,7 @@ fn bounds(
     ensures low { (m : List ℤ) (c : Curve) (x : model_tables.Tables) (price : Pricing) → tree.now.groups ≡ level_groups schema.now (level_of spine.now unit) → result.low ≡ least_in c (inputs_of schema.now spine.now inv.now m) (level_groups schema.now) x price fit unit group }
     ensures high { (m : List ℤ) (c : Curve) (x : model_tables.Tables) (price : Pricing) → tree.now.groups ≡ level_groups schema.now (level_of spine.now unit) → result.high ≡ most_in c (inputs_of schema.now spine.now inv.now m) (level_groups schema.now) x price fit unit group }
 {
-    // The unit has bounds.
+    // The spine is there for what is known of it.
     let _ = spine;
     match fit {
         None => FREE,

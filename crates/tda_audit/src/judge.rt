@@ -24,15 +24,16 @@ use tda_prices::Prices;
 use tda_schema::Schema;
 use tda_spine::Spine;
 
-/// The first condition that fails, or `Yes` where none does: where tables keep what is published, and the prices of each
-/// fit show that no other tables which that fit may choose are nearer to the measurements. Nothing is solved.
+/// The first condition that fails, or `Yes` where none does: where tables keep what is published, and the prices of
+/// each fit show that no other tables which that fit may choose are nearer to the measurements. Nothing is solved.
 ///
-/// Conditions in order: the counts of a unit's children add up to its own; nobody is in a cell that isn't possible; the
-/// counts of a state add up to its total; of each kind a unit has as many as it may. Then, fit by fit and arc by arc, one more
-/// on the arc isn't worth it, nor one less. The shares of states and kinds are those of the states' tables.
+/// Conditions in order: the counts of a unit's children add up to its own; nobody is in a cell that isn't possible;
+/// the counts of a state add up to its total; of each kind a unit has as many as it may. Then, fit by fit and arc by
+/// arc, one more on the arc isn't worth it, nor one less. The shares of states and kinds are those of the states'
+/// tables.
 ///
-/// `NoMemory` where memory ran out, which is wanted for the groups of each level, a count for each kind and the terms of one
-/// group.
+/// `NoMemory` where memory ran out, which is wanted for the groups of each level, a count for each kind and the
+/// terms of one group.
 pub fn audit<F: Fn(i64) -> i128>(
     alloc: Global,
     schema: &Schema,

@@ -60,7 +60,8 @@ fn wrong_share(
     None
 }
 
-// The first share of a state and a kind that fails. There is a count for each kind, and a price for each state and each kind.
+// The first share of a state and a kind that fails. There is a count for each kind, and a price for each state and
+// each kind.
 pub(crate) fn wrong_shares(
     schema: &Schema,
     spine: &Spine,

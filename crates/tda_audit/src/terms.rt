@@ -18,8 +18,8 @@ use tda_places::{Measurements, Place};
 use tda_schema::Schema;
 use tda_spine::Spine;
 
-// The term of a query at a unit's group, where one of the query's classes has just the group's cells. The class is that of
-// the group's first cell.
+// The term of a query at a unit's group, where one of the query's classes has just the group's cells. The class is
+// that of the group's first cell.
 fn query_term(
     schema: &Schema,
     spine: &Spine,

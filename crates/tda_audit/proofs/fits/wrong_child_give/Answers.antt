@@ -1,5 +1,5 @@
 -- One child more.
-use Rattle.std.proofs.Common.{◌≡◌, ℕ, ◌<◌, ◌≤◌, Some, length, get_or, sym, ap, ◌∙◌, subst, arith}
+use Rattle.std.proofs.Common.{◌<◌, ◌≤◌, Some, length, sym, ap, ◌∙◌}
 use Rattle.tda_model.specs.Spine.{children_of}
 use Rattle.tda_out.specs.Counts.{count_at}
 use Rattle.tda_fitnet.specs.Inputs.{inputs_of}

@@ -1,12 +1,12 @@
 -- One child more.
-use Rattle.std.proofs.Common.{◌≡◌, ℕ, ◌+◌, ◌<◌, ◌≤◌, Some, length, get_or, sym, ap, ◌∙◌, subst, arith}
+use Rattle.std.proofs.Common.{◌+◌, ◌<◌, ◌≤◌, Some, length, get_or, sym, ap, ◌∙◌}
 use Rattle.tda_model.specs.Spine.{level_of, children_of}
 use Rattle.tda_out.specs.Counts.{count_at}
 use Rattle.tda_fitnet.specs.Inputs.{inputs_of}
 use Rattle.tda_audit.specs.Certified.{level_groups}
 use Rattle.tda_audit.specs.Verdicts.{group_names, first_failing}
 use Rattle.tda_audit.proofs.ArcWalks.{unit_fine, unit_fails, no_unit}
-use Rattle.tda_audit.proofs.ChildArcs.{same, here, level_is, tree_is, in_levels, own_prices}
+use Rattle.tda_audit.proofs.ChildArcs.{same, here, tree_is, in_levels, own_prices}
 use Rattle.tda_audit.proofs.Judged.{groups_few}
 use Rattle.tda_audit.proofs.fits.wrong_child_group.Goals as goal
 

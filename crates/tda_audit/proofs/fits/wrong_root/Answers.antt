@@ -1,7 +1,6 @@
 -- The prices of the root fit in three parts: of the states, the kinds, and the nation's groups.
-use Rattle.std.proofs.Common.{◌≡◌, ℕ, ◌+◌, ◌*◌, ◌≤◌, ◌++◌, List, Some, None, IfOk, length, take, drop, sym, ap, ◌∙◌, subst, arith}
+use Rattle.std.proofs.Common.{◌≡◌, ◌++◌, Some, None, IfOk, length, take, drop, sym, ap, ◌∙◌, subst, arith}
 use Rattle.tda_model.specs.Spine.{IsUnit, level_of, nation_of}
-use Rattle.tda_schema.specs.Stated.{level_at}
 use Rattle.tda_out.specs.Counts.{count_at}
 use Rattle.tda_fitnet.specs.Inputs.{inputs_of}
 use Rattle.tda_audit.specs.Certified.{level_groups}
@@ -9,7 +8,7 @@ use Rattle.tda_audit.specs.Prices.{AreGroupPrices}
 use Rattle.tda_audit.specs.Verdicts.{share_names, give_names, group_names, first_failing}
 use Rattle.tda_audit.proofs.ArcWalks.{part_fails, rest_fails, rest_fails_ok}
 use Rattle.tda_audit.proofs.Judged.{groups_few}
-use Rattle.tda_audit.proofs.PriceParts.{root_size, root_states, rest_size, root_givers, root_groups}
+use Rattle.tda_audit.proofs.PriceParts.{root_size, root_states, root_givers, root_groups}
 use Rattle.tda_audit.proofs.fits.wrong_root.Goals as goal
 
 pub split_at-requires : goal.split_at-requires

@@ -1,8 +1,7 @@
 -- The prices of a split in two parts: of the cells, and of the children's groups.
-use Rattle.std.proofs.Common.{◌≡◌, ℕ, ◌+◌, ◌*◌, ◌≤◌, List, Some, length, take, drop, sym, ap, ◌∙◌, subst, arith}
+use Rattle.std.proofs.Common.{Some, length, take, drop, ap, ◌∙◌, arith}
 use Rattle.std.specs.List.{flat_map}
-use Rattle.tda_model.specs.Cells.{possible_cells}
-use Rattle.tda_model.specs.Spine.{level_of, children_of}
+use Rattle.tda_model.specs.Spine.{children_of}
 use Rattle.tda_out.specs.Counts.{count_at}
 use Rattle.tda_fitnet.specs.Inputs.{inputs_of}
 use Rattle.tda_audit.specs.Certified.{level_groups}

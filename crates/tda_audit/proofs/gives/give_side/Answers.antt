@@ -1,7 +1,6 @@
 -- The arc from a cell's giver, by its price and that of the cell's smallest group.
-use Rattle.std.proofs.Common.{◌≡◌, ℕ, ℤ, pos, ◌-ℤ◌, ◌<◌, ◌≤◌, List, length, get_or, refl, sym, ap, ◌∙◌, subst, arith}
-use Rattle.std.proofs.lemmas.List.Elements.{Contains-get_or}
-use Rattle.tda_model.specs.Cells.{cell_count, possible_cells}
+use Rattle.std.proofs.Common.{◌≡◌, pos, ◌-ℤ◌, ◌<◌, length, get_or, refl, sym, ap, ◌∙◌, arith}
+use Rattle.tda_model.specs.Cells.{possible_cells}
 use Rattle.tda_model.specs.Spine.{level_of}
 use Rattle.tda_groups.specs.Chains.{smallest_of}
 use Rattle.tda_out.specs.Counts.{count_at}

@@ -1,5 +1,5 @@
 -- One cell more.
-use Rattle.std.proofs.Common.{◌≡◌, ℕ, ◌<◌, ◌≤◌, length, get_or, Some, sym, ap, ◌∙◌, subst, arith}
+use Rattle.std.proofs.Common.{◌<◌, ◌≤◌, length, get_or, Some, ap, ◌∙◌, arith}
 use Rattle.tda_model.specs.Cells.{possible_cells}
 use Rattle.tda_out.specs.Counts.{count_at}
 use Rattle.tda_fitnet.specs.declared.name.ArcName.TheVariants.{Give}

@@ -1,22 +1,19 @@
 -- The arc of a group, by its terms, its bounds and its price.
-use Rattle.std.proofs.Common.{◌≡◌, ℕ, ℤ, pos, ◌+◌, ◌-◌, ◌-ℤ◌, ◌==◌, ◌<◌, ◌≤◌, cond, List, length, get_or, refl, sym, ap, ◌∙◌, subst, arith, inl, inr, eq-eqb, ne_eqb}
-use Rattle.std.proofs.lemmas.Bool.{cases_eq}
+use Rattle.std.proofs.Common.{◌≡◌, pos, ◌+◌, ◌-◌, ◌-ℤ◌, ◌==◌, ◌<◌, ◌≤◌, cond, length, get_or, refl, sym, ap, ◌∙◌, arith}
 use Rattle.tda_model.specs.Spine.{level_of}
 use Rattle.tda_schema.specs.Stated.{level_at}
 use Rattle.tda_loss.specs.Curve.{value_of}
-use Rattle.tda_flow.specs.declared.net.Term.{Term}
 use Rattle.tda_flow.specs.Flow.{arc_cost}
 use Rattle.tda_groups.specs.Chains.{next_of}
-use Rattle.tda_groups.specs.Order.{AreGroups, group_at}
+use Rattle.tda_groups.specs.Order.{group_at}
 use Rattle.tda_fitnet.specs.declared.name.ArcName.TheVariants.{Group}
 use Rattle.tda_fitnet.specs.Fits.{group_sum}
 use Rattle.tda_fitnet.specs.Inputs.{inputs_of}
 use Rattle.tda_fitnet.specs.Terms.{terms_of}
 use Rattle.tda_fitnet.proofs.GroupSums.{next_less}
-use Rattle.tda_prices.specs.Items.{OfGroup, Pricing}
+use Rattle.tda_prices.specs.Items.{OfGroup}
 use Rattle.tda_audit.specs.Arcs.{arc_of}
 use Rattle.tda_audit.specs.Certified.{level_groups}
-use Rattle.tda_audit.specs.Prices.{AreGroupPrices}
 use Rattle.tda_audit.proofs.Rises.{rise_is, price_near, next_is, back}
 use Rattle.tda_audit.proofs.groups.group_side.Goals as goal
 

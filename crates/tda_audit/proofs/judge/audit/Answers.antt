@@ -1,5 +1,5 @@
 -- The rules, and then the arcs.
-use Rattle.std.proofs.Common.{◌≡◌, ◌<◌, ◌≤◌, ℕ, Some, None, IfOk, length, sym, ap, ◌∙◌, subst, arith}
+use Rattle.std.proofs.Common.{◌≤◌, sym, ◌∙◌, arith}
 use Rattle.tda_model.specs.Commons.{common_of}
 use Rattle.tda_schema.specs.Shares.{denominator_limit}
 use Rattle.tda_invar.proofs.Existence.{always}

@@ -1,4 +1,3 @@
-use Rattle.std.proofs.Common.{sym}
 use Rattle.tda_invar.specs.Known.{known_of}
 use Rattle.tda_out.specs.Counts.{count_at}
 use Rattle.tda_audit.proofs.Passes.{first_rule, second_rule, third_rule, fourth_rule}

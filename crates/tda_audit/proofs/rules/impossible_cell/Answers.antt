@@ -1,4 +1,4 @@
-use Rattle.std.proofs.Common.{◌≡◌, ◌==◌, ◌&&◌, not, false, true, ap, sym, ◌∙◌, arith}
+use Rattle.std.proofs.Common.{◌==◌, ◌&&◌, not, sym, ◌∙◌, arith}
 use Rattle.tda_audit.proofs.Passes.{somebody, nobody, may_be}
 use Rattle.tda_model.specs.Cells.{cell_count, is_possible}
 use Rattle.tda_spine.proofs.Firsts.{number_fails, number_passes, no_number}

@@ -1,4 +1,4 @@
-use Rattle.std.proofs.Common.{◌≤◌, ◌^◌, ◌*◌, ◌+◌, ap, ◌∙◌, arith}
+use Rattle.std.proofs.Common.{arith}
 use Rattle.tda_invar.proofs.RangeLemmas.{sum_more}
 use Rattle.tda_out.specs.Counts.{count_at}
 use Rattle.tda_audit.proofs.rules.persons.Goals as goal

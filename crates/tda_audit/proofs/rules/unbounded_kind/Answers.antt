@@ -1,4 +1,4 @@
-use Rattle.std.proofs.Common.{◌≡◌, ◌||◌, nat_lt, length, get_or, refl, subst, sym, ◌∙◌, arith, Bool, ℕ}
+use Rattle.std.proofs.Common.{◌||◌, nat_lt, length, get_or, refl, arith}
 use Rattle.tda_model.specs.Bounds.{low, high}
 use Rattle.tda_spine.proofs.Firsts.{number_fails, number_passes, no_number}
 use Rattle.tda_invar.specs.Known.{known_of}

@@ -1,4 +1,4 @@
-use Rattle.std.proofs.Common.{◌≡◌, ◌||◌, nat_lt, length, slice_index}
+use Rattle.std.proofs.Common.{◌||◌, nat_lt, length, slice_index}
 use Rattle.std.specs.List.{range_with_len}
 use Rattle.tda_model.specs.Bounds.{low, high}
 use Rattle.tda_model.specs.Schema.{Schema}

@@ -1,11 +1,11 @@
-use Rattle.std.proofs.Common.{◌≡◌, ◌==◌, length, not, false, true, sum_by, ap, sym, ◌∙◌, arith}
+use Rattle.std.proofs.Common.{◌==◌, length, not, sum_by, sym, ◌∙◌, arith}
 use Rattle.tda_model.specs.Cells.{cell_count}
 use Rattle.tda_model.specs.Spine.{children_of, is_child}
 use Rattle.tda_spine.proofs.Firsts.{number_fails, number_passes, no_number}
 use Rattle.tda_spine.proofs.Numbers.{length-kept-le}
 use Rattle.tda_out.specs.Counts.{count_at}
 use Rattle.tda_audit.proofs.Passes.{differ, alike}
-use Rattle.tda_audit.proofs.Rows.{children_here, rows_have}
+use Rattle.tda_audit.proofs.Rows.{children_here}
 use Rattle.tda_audit.proofs.rules.unsummed_cell.Goals as goal
 
 pub count_in-requires-clause-units : goal.count_in-requires-clause-units

@@ -1,4 +1,4 @@
-use Rattle.std.proofs.Common.{◌≡◌, map, length, sym, ap, ◌∙◌, arith}
+use Rattle.std.proofs.Common.{map, length, sym, arith}
 use Rattle.tda_model.specs.Cells.{all_cells}
 use Rattle.tda_out.specs.Counts.{count_at}
 use Rattle.tda_audit.specs.Verdicts.{breaks}

@@ -1,4 +1,4 @@
-use Rattle.std.proofs.Common.{◌≡◌, map, length, Some, None, sym, ◌∙◌, arith}
+use Rattle.std.proofs.Common.{map, length, Some, None, arith}
 use Rattle.std.specs.List.{range_with_len}
 use Rattle.tda_model.specs.Groups.{kind_count}
 use Rattle.tda_invar.specs.Known.{known_of}

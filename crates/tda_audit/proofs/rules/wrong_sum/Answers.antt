@@ -1,4 +1,4 @@
-use Rattle.std.proofs.Common.{◌≡◌, ◌+◌, length, Some, None, sym, ◌∙◌, arith}
+use Rattle.std.proofs.Common.{◌+◌, length, Some, None, sym, ◌∙◌, arith}
 use Rattle.std.proofs.lemmas.Bool.{lt-ltb, le-ltb}
 use Rattle.tda_model.specs.Cells.{all_cells}
 use Rattle.tda_model.specs.Spine.{level_of}

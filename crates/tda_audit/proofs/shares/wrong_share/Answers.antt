@@ -1,12 +1,12 @@
 -- One kind more.
-use Rattle.std.proofs.Common.{◌≡◌, ℕ, ℤ, pos, ◌-ℤ◌, ◌<◌, ◌≤◌, List, Some, None, length, get_or, refl, sym, ap, ◌∙◌, subst, arith}
+use Rattle.std.proofs.Common.{pos, ◌-ℤ◌, ◌<◌, Some, None, length, get_or, refl, sym, ap, ◌∙◌, arith}
 use Rattle.std.specs.List.{range_with_len}
 use Rattle.std.proofs.lemmas.List.FromFn.{length-range_with_len}
 use Rattle.tda_places.proofs.Nested.{range_at}
 use Rattle.tda_model.specs.Groups.{kind_count}
 use Rattle.tda_fitnet.specs.declared.name.ArcName.TheVariants.{Share}
 use Rattle.tda_fitnet.specs.Inputs.{inputs_of}
-use Rattle.tda_prices.specs.Items.{OfState, OfKind, Pricing}
+use Rattle.tda_prices.specs.Items.{OfState}
 use Rattle.tda_audit.specs.Arcs.{arc_of}
 use Rattle.tda_audit.specs.Verdicts.{failing}
 use Rattle.tda_audit.specs.declared.verdict.Verdict.TheVariants.{Arc}

@@ -1,5 +1,5 @@
 -- One state more.
-use Rattle.std.proofs.Common.{◌≡◌, ℕ, ℤ, pos, ◌<◌, ◌≤◌, List, Some, None, length, get_or, refl, sym, ap, ◌∙◌, subst, arith}
+use Rattle.std.proofs.Common.{pos, ◌<◌, ◌≤◌, None, length, get_or, sym, ap, ◌∙◌, arith}
 use Rattle.tda_model.specs.Spine.{units_at}
 use Rattle.tda_invar.proofs.StatePlaces.{states_are}
 use Rattle.tda_out.specs.Counts.{count_at}
@@ -55,7 +55,7 @@ loop-n-preserved c = record {
       let below : n < length (units_at sp 1) = rw c.at_level-state-items.ensures at c.loop-n-test.true in
       let state = ap (λ xs. get_or xs n 0) c.at_level-state-items.ensures in
       let low : n < length c.args.states.now = omega (arith, below, c.requires.states) in
-    let from =
+      let from =
       price_back (get_or c.args.states.now n (pos 0)) (price_near c.args.states.now c.requires.state_limit n low) ∙ states.each n low ∙ ap (λ u. price None (OfState u)) (sym state) in
       let none = c.in_default.ensures s sp m curve (count_at c.args.tables.now) price c.requires.joined c.count_kinds.ensures.sums from kinds in
       unit_fine (inputs_of s sp c.args.inv.now m) (level_groups s) curve (count_at c.args.tables.now) price None (state_share_names s)

@@ -1,8 +1,8 @@
 -- The term by the class of the group's first cell.
-use Rattle.std.proofs.Common.{◌≡◌, ◌∷◌, [], ℕ, ℤ, cond, length, sym, ap, ◌∙◌, arith, eq-eqb, ne_eqb, FitsSigned}
+use Rattle.std.proofs.Common.{◌∷◌, [], ℕ, ℤ, cond, sym, ap, ◌∙◌, arith, eq-eqb, ne_eqb, FitsSigned}
 use Rattle.std.specs.Int.{w64}
 use Rattle.std.proofs.lemmas.Int.{ints, to_z-of_z}
-use Rattle.tda_schema.specs.Stated.{level_at, queries_at, query_at}
+use Rattle.tda_schema.specs.Stated.{level_at, query_at}
 use Rattle.tda_model.specs.Commons.{common_of}
 use Rattle.tda_model.specs.Spine.{level_of}
 use Rattle.tda_model.specs.Deviation.{weight_of}

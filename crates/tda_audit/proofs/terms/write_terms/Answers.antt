@@ -5,7 +5,7 @@ use Rattle.std.proofs.lemmas.List.Elements.{All-push}
 use Rattle.tda_model.specs.Schema.{Schema, Query}
 use Rattle.tda_model.specs.Spine.{level_of}
 use Rattle.tda_model.specs.Release.{Inputs}
-use Rattle.tda_schema.specs.Stated.{queries_at, query_at}
+use Rattle.tda_schema.specs.Stated.{queries_at}
 use Rattle.tda_flow.specs.Network.{IsNetTerm, no_term}
 use Rattle.tda_groups.specs.Order.{group_at}
 use Rattle.tda_fitnet.specs.Inputs.{inputs_of}
