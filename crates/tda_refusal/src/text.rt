@@ -73,7 +73,7 @@ fn push_name(out: &mut Vec<u8>, name: &str) -> Result<(), NoMemory>
 }
 
 // Appends a name and, after a space, a unit's code.
-fn push_coded(out: &mut Vec<u8>, name: &str, code: &str) -> Result<(), NoMemory>
+pub(crate) fn push_coded(out: &mut Vec<u8>, name: &str, code: &str) -> Result<(), NoMemory>
     ensures ok { OnOk result (out.new.items ≡ out.old.items ++ spec.coded name.now code.now) }
     ensures err { OnErr result (out.new.items ≡ out.old.items) }
 {
@@ -85,7 +85,7 @@ fn push_coded(out: &mut Vec<u8>, name: &str, code: &str) -> Result<(), NoMemory>
 }
 
 // Appends a name and, after a space, a number.
-fn push_numbered(out: &mut Vec<u8>, name: &str, number: u64) -> Result<(), NoMemory>
+pub(crate) fn push_numbered(out: &mut Vec<u8>, name: &str, number: u64) -> Result<(), NoMemory>
     ensures ok { OnOk result (out.new.items ≡ out.old.items ++ spec.numbered name.now number) }
     ensures err { OnErr result (out.new.items ≡ out.old.items) }
 {
@@ -94,7 +94,7 @@ fn push_numbered(out: &mut Vec<u8>, name: &str, number: u64) -> Result<(), NoMem
 }
 
 // Keeps so many bytes alone where memory ran out.
-fn or_cut(out: &mut Vec<u8>, kept: usize, pushed: Result<(), NoMemory>) -> Result<(), NoMemory>
+pub(crate) fn or_cut(out: &mut Vec<u8>, kept: usize, pushed: Result<(), NoMemory>) -> Result<(), NoMemory>
     ensures same { result ≡ pushed }
     ensures ok { OnOk result (out.new.items ≡ out.old.items) }
     ensures err { OnErr result (out.new.items ≡ take kept out.old.items) }
@@ -252,7 +252,7 @@ fn push_prices(fault: PriFault, out: &mut Vec<u8>) -> Result<(), NoMemory>
 }
 
 // The name of a kind of quarters.
-fn kind_name(schema: &Schema, kind: u16) -> &str
+pub(crate) fn kind_name(schema: &Schema, kind: u16) -> &str
     requires { kind < kind_count schema.now }
     ensures value { result.now ≡ spec.kind_name schema.now kind }
     ensures name { name_test 32 result.now ≡ true }
