@@ -1,0 +1,5 @@
+pub mod RecordsText
+pub mod FacilitiesText
+pub mod DemoEntries
+pub mod DemoRecords
+pub mod Laws
