@@ -44,11 +44,11 @@ module _ (number size : ℕ) (some : 1 ≤ size) (few : size ≤ 64) where
   pub are_accepted : AreAccepted number size
   unfolding spine
   are_accepted = record {
-    schema = document.accepted;
-    spine = spine_accepted;
-    facilities = facilities_accepted;
+    schema_read = document.accepted;
+    spine_read = spine_accepted;
+    facilities_read = facilities_accepted;
     numbers = number_is schema (regular.spine size) (spines.sound size some few) kind_names (entries.facilities (regular.spine size)) (places.are_entries (regular.spine size));
-    records = ap (records_file.read schema (regular.spine size)) (sym (records_text_is number size)) ∙ persons.records_accepted (regular.spine size) (word number) (spines.sound size some few);
+    records_read = ap (records_file.read schema (regular.spine size)) (sym (records_text_is number size)) ∙ persons.records_accepted (regular.spine size) (word number) (spines.sound size some few);
     records_are = lengths.are_few_records (regular.spine size) (spines.sound size some few) (spines.many size some few) (word number);
     agree = agreeing.demo_agrees (regular.spine size) (spines.sound size some few) (word number);
   }

@@ -38,12 +38,12 @@ pub record AreShort (number size : ℕ) : Type 0 where
 
 -- each file is accepted and gives what it was written for, and the records agree with the facilities
 pub record AreAccepted (number size : ℕ) : Type 0 where
-  pub schema : schema_file.read schema_text ≡ Ok schema
-  pub spine : spine_file.read schema (spine_text size) ≡ Ok (spine size)
-  pub facilities : facilities_file.read schema (spine size) (facilities_text size) ≡ Ok (facility_table size)
+  pub schema_read : schema_file.read schema_text ≡ Ok schema
+  pub spine_read : spine_file.read schema (spine_text size) ≡ Ok (spine size)
+  pub facilities_read : facilities_file.read schema (spine size) (facilities_text size) ≡ Ok (facility_table size)
   pub numbers : (u k : ℕ) → IsUnit (spine size) u → k < kind_count schema
       → number_at (facility_table size) u k ≡ count_of (facilities size) u k
-  pub records : records_file.read schema (spine size) (records_text number size) ≡ Ok (records number size)
+  pub records_read : records_file.read schema (spine size) (records_text number size) ≡ Ok (records number size)
   pub records_are : AreRecordsOf schema (spine size) (records number size)
   pub agree : agree_due schema (spine size) (facility_table size) (true_count (spine size) (records number size)) ≡ Ok tt
 
