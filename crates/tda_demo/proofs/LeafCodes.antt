@@ -1,11 +1,11 @@
 -- The last units of a regular spine, in file order, have the codes of their numbers.
-use Rattle.std.proofs.Common.{◌≡◌, ◌≢◌, ℕ, zero, suc, ◌+◌, ◌-◌, ◌*◌, ◌/◌, ◌%◌, ◌<◌, ◌≤◌, Bool, true, false, cond, List, [], ◌∷◌, ◌++◌, map, length, get_or, Option, Some, None, refl, sym, ap, subst, ◌∙◌, arith, eq-eqb, ne_eqb}
+use Rattle.std.proofs.Common.{◌≡◌, ℕ, suc, ◌+◌, ◌-◌, ◌*◌, ◌<◌, ◌≤◌, Bool, true, false, cond, List, [], ◌∷◌, ◌++◌, map, length, get_or, Some, None, refl, sym, ap, subst, ◌∙◌, arith, eq-eqb, ne_eqb}
 use Rattle.std.specs.Prelude.{◌==◌, filter, slice_get}
 use Rattle.std.specs.List.{flat_map, range_with_len}
 use Rattle.std.proofs.lemmas.List.{map-append, get_or-map, length-map}
 use Rattle.std.proofs.lemmas.List.Elements.{filter-append}
 use Rattle.std.proofs.lemmas.List.FromFn.{length-map-range_with_len, get_or-map-range_with_len}
-use Rattle.tda_model.specs.Spine.{Spine, SpineUnit, code_of, level_of, is_at, units_at}
+use Rattle.tda_model.specs.Spine.{Spine, SpineUnit, code_of, is_at, units_at}
 use Rattle.tda_demo.specs.BlockCodes.{leaf_count, leaf_code}
 use Rattle.tda_demo.specs.Facilities.{block_count, block_code}
 use Rattle.tda_demo.specs.Preorder.{Branch, child_code, child_place, child, units_below, nation, regular_spine}

@@ -1,5 +1,5 @@
 -- Rows that are appended one after another, and codes that are written as they are.
-use Rattle.std.proofs.Common.{◌≡◌, ℕ, ◌+◌, ◌<◌, ◌^◌, true, ◌&&◌, List, [], ◌∷◌, ◌++◌, sym, ap, ◌∙◌, arith, append_assoc, length-append, append-nil}
+use Rattle.std.proofs.Common.{◌≡◌, ℕ, ◌+◌, ◌<◌, ◌^◌, true, ◌&&◌, List, ◌∷◌, ◌++◌, sym, ap, ◌∙◌, arith, append_assoc, length-append, append-nil}
 use Rattle.std.specs.Fmt.{decimal}
 use Rattle.std.specs.List.{flat_map, range_with_len, list_all}
 use Rattle.std.proofs.lemmas.Grind.{flat_map-append}

@@ -13,12 +13,7 @@ use std::alloc::Global;
 use tda_io::{NoMemory, push_field};
 
 // Appends the row of one facility of a kind in a block, where it stands there.
-fn push_facility(
-    out: &mut Vec<u8>,
-    code: &[u8],
-    kind: &[u8],
-    stands: bool,
-) -> Result<(), NoMemory>
+fn push_facility(out: &mut Vec<u8>, code: &[u8], kind: &[u8], stands: bool) -> Result<(), NoMemory>
     requires code { IsPlain code.now }
     requires kind { IsPlain kind.now }
     ensures { OnOk result (out.new.items ≡ out.old.items ++ flat_map row_text (if stands then (code.now ∷ kind.now ∷ codes "1" ∷ []) ∷ [] else [])) }

@@ -9,5 +9,7 @@ mod person_rows;
 mod schema;
 mod spine_rows;
 mod taking;
+#[cfg(test)]
+mod tests;
 
 pub use files::{DemoFiles, demo_files};

@@ -79,7 +79,11 @@ fn drawn_kind(dormitory: bool, prison: bool, word: u32) -> Kind
 fn drawn_sex(word: u32) -> Sex
     ensures { sex_number result ≡ spec.drawn_sex word }
 {
-    if word / 8 % 2 == 0 { Sex::Female } else { Sex::Male }
+    if word / 8 % 2 == 0 {
+        Sex::Female
+    } else {
+        Sex::Male
+    }
 }
 
 // The age that a word makes: nobody in a prison is a minor.

@@ -51,7 +51,11 @@ fn push_resident(
     requires { IsPlain code.now }
     ensures { OnOk result (out.new.items ≡ out.old.items ++ flat_map row_text (map (person_row schema code.now) (if stands then cell_of person ∷ [] else []))) }
 {
-    if stands { push_person(out, code, person) } else { Ok(()) }
+    if stands {
+        push_person(out, code, person)
+    } else {
+        Ok(())
+    }
 }
 
 // Appends the rows of the persons that a block's facilities need: a woman in a dormitory, a man in a prison.

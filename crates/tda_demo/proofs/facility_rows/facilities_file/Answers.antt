@@ -1,4 +1,4 @@
-use Rattle.std.proofs.Common.{◌≡◌, ◌++◌, ◌∷◌, [], codes, ap, sym, ◌∙◌, ◌*◌}
+use Rattle.std.proofs.Common.{◌≡◌, ◌++◌, [], codes, ap, sym, ◌∙◌, ◌*◌}
 use Rattle.std.specs.List.{flat_map}
 use Rattle.tda_io.specs.Texts.{row_text}
 use Rattle.tda_demo.specs.BlockCodes.{leaf_code}

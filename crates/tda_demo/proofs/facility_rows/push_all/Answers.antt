@@ -1,6 +1,5 @@
 use Rattle.std.proofs.Common.{◌++◌, [], ℕ, List, ap, sym, subst, ◌∙◌, arith}
 use Rattle.std.specs.List.{flat_map}
-use Rattle.tda_io.specs.Csv.{Row}
 use Rattle.tda_io.specs.Texts.{row_text, IsPlain}
 use Rattle.tda_demo.specs.BlockCodes.{leaf_code}
 use Rattle.tda_demo.specs.DemoSpine.{branches}

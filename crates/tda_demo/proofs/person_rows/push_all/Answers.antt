@@ -1,4 +1,4 @@
-use Rattle.std.proofs.Common.{◌≡◌, ◌≤◌, ◌+◌, ◌-◌, ◌*◌, ◌%◌, ◌++◌, [], refl, ℕ, List, ap, sym, subst, ◌∙◌, arith, map, take, drop, get_or, length, append-nil}
+use Rattle.std.proofs.Common.{◌≤◌, ◌+◌, ◌-◌, ◌%◌, ◌++◌, [], refl, ℕ, List, ap, sym, subst, ◌∙◌, arith, map, take, drop, get_or, length, append-nil}
 use Rattle.std.specs.List.{flat_map}
 use Rattle.std.proofs.lemmas.List.FromFn.{length-map-range_with_len}
 use Rattle.rand_chacha.specs.ChaCha.{key_of}
@@ -10,7 +10,7 @@ use Rattle.tda_demo.specs.Facilities.{has_dormitory, has_prison}
 use Rattle.tda_demo.specs.Persons.{block_persons, drawn, first_word, person_row, residents, word}
 use Rattle.tda_demo.specs.Schema.{schema}
 use Rattle.tda_demo.proofs.BlockRows.{plain_block}
-use Rattle.tda_demo.proofs.NextWords.{first_few, left_is, persons_are, supply}
+use Rattle.tda_demo.proofs.NextWords.{first_few, left_is, persons_are}
 use Rattle.tda_demo.proofs.Rows.{rows_more}
 use Rattle.tda_demo.proofs.person_rows.push_all.Goals as goal
 

@@ -1,4 +1,4 @@
-use Rattle.std.proofs.Common.{◌≡◌, ◌<◌, ◌≤◌, drop, length, subst, sym, ap, arith, length-drop}
+use Rattle.std.proofs.Common.{◌<◌, ◌≤◌, length, ap, arith, length-drop}
 use Rattle.tda_demo.specs.Facilities.{has_dormitory, has_prison}
 use Rattle.tda_demo.specs.Persons.{drawn, person_row}
 use Rattle.tda_demo.specs.Schema.{schema}

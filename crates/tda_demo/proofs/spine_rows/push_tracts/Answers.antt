@@ -2,7 +2,7 @@ use Rattle.std.proofs.Common.{◌+◌, ◌++◌, ◌∷◌, [], List, ℕ, refl,
 use Rattle.std.specs.List.{flat_map}
 use Rattle.tda_io.specs.Csv.{Row}
 use Rattle.tda_io.specs.Texts.{row_text, IsPlain}
-use Rattle.tda_demo.specs.DemoSpine.{states, counties, tracts, blocks}
+use Rattle.tda_demo.specs.DemoSpine.{tracts, blocks}
 use Rattle.tda_demo.specs.Preorder.{Branch, child_code}
 use Rattle.tda_demo.specs.PreorderRows.{rows_below}
 use Rattle.tda_demo.specs.Schema.{schema}

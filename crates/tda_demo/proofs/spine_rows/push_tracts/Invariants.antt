@@ -1,7 +1,7 @@
-use Rattle.std.proofs.Common.{◌≡◌, ◌++◌, ◌∷◌, [], codes}
+use Rattle.std.proofs.Common.{◌≡◌, ◌++◌, ◌∷◌, []}
 use Rattle.std.specs.List.{flat_map}
 use Rattle.tda_io.specs.Texts.{row_text}
-use Rattle.tda_demo.specs.DemoSpine.{counties, tracts, blocks}
+use Rattle.tda_demo.specs.DemoSpine.{blocks}
 use Rattle.tda_demo.specs.PreorderRows.{rows_below}
 use Rattle.tda_demo.specs.Schema.{schema}
 use Rattle.tda_demo.proofs.spine_rows.push_tracts.Given as goal
