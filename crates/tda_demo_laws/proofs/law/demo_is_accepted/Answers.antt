@@ -1,5 +1,5 @@
 use Rattle.tda_demo_laws.proofs.Accepted.{are_accepted, are_short, is_sized}
-use Rattle.tda_demo_laws.proofs.demo_is_accepted.Goals as goal
+use Rattle.tda_demo_laws.proofs.law.demo_is_accepted.Goals as goal
 
 pub returns : goal.returns
 returns c = record {
