@@ -11,7 +11,10 @@ use Rattle.tda_demo.specs.Schema.{schema}
 use Rattle.tda_demo.specs.Text.{schema_text}
 use Rattle.tda_demo_laws.specs.DemoEntries as entries
 use Rattle.tda_demo_laws.specs.FacilitiesText.{entry_rows}
-use Rattle.tda_demo_laws.specs.Laws.{AreAccepted, AreShort, IsSized}
+use Rattle.tda_demo_laws.specs.Laws.{AreAccepted, AreShort, IsSized, facility_table, records}
+use Rattle.tda_out.specs.Counts.{count_at, counts_of}
+use Rattle.tda_hist.specs.Agreement.{agree_due}
+use Rattle.tda_hist.specs.TrueTable.{true_count}
 use Rattle.tda_demo_laws.proofs.DemoAgrees as agreeing
 use Rattle.tda_demo_laws.proofs.DemoFacilities as places
 use Rattle.tda_demo_laws.proofs.DemoFacilities.{kind_names}
@@ -52,6 +55,10 @@ module _ (number size : ℕ) (some : 1 ≤ size) (few : size ≤ 64) where
     records_are = lengths.are_few_records (regular.spine size) (spines.sound size some few) (spines.many size some few) (word number);
     agree = agreeing.demo_agrees (regular.spine size) (spines.sound size some few) (word number);
   }
+
+  pub agree : agree_due schema (spine size) (facility_table size) (count_at (counts_of schema (spine size) (true_count (spine size) (records number size)))) ≡ Ok tt
+  unfolding spine
+  agree = agreeing.counts_agree (regular.spine size) (spines.sound size some few) (word number)
 
   spine_is_short : length (spine_text size) ≤ 2 ^ 28
   unfolding spine_text

@@ -10,6 +10,7 @@ use Rattle.tda_schema.proofs.WholeLemmas.{cell_of_possible}
 use Rattle.tda_spine.specs.Sound.{IsSound}
 use Rattle.tda_records.specs.Records.{IsRecordOf, IsBlock}
 use Rattle.tda_records.specs.declared.records.Record.{Record}
+use Rattle.tda_out.specs.Counts.{count_at, counts_of}
 use Rattle.tda_hist.specs.Agreement.{agree_due}
 use Rattle.tda_hist.specs.TrueTable.{true_count}
 use Rattle.tda_demo.specs.Schema.{schema}
@@ -18,6 +19,7 @@ use Rattle.tda_demo.specs.Facilities.{has_dormitory, has_prison, kinds_where, fa
 use Rattle.tda_demo_laws.specs.DemoEntries.{block_facilities, facilities}
 use Rattle.tda_demo.specs.Persons.{cell, drawn, residents, further, first_word, drawn_persons, block_persons}
 use Rattle.tda_demo_laws.specs.DemoRecords.{block_records, records}
+use Rattle.tda_demo_laws.proofs.CountedAgree.{counted_agrees}
 use Rattle.tda_demo_laws.proofs.FacilitiesBack.{table, number_is}
 use Rattle.tda_demo_laws.proofs.DemoRecords.{are_records}
 use Rattle.tda_demo_laws.proofs.DemoFacilities.{are_entries, kind_names}
@@ -197,3 +199,8 @@ module _ (sp : Spine) (sound : IsSound sp) (words : ℕ → ℕ) where
 
   pub demo_agrees : agree_due schema sp (table schema sp sound kind_names (facilities sp)) (true_count sp (records sp words)) ≡ Ok tt
   demo_agrees = agree_ok schema sp (table schema sp sound kind_names (facilities sp)) (true_count sp (records sp words)) agrees
+
+  pub counts_agree : agree_due schema sp (table schema sp sound kind_names (facilities sp)) (count_at (counts_of schema sp (true_count sp (records sp words)))) ≡ Ok tt
+  counts_agree =
+      agree_ok schema sp (table schema sp sound kind_names (facilities sp)) (count_at (counts_of schema sp (true_count sp (records sp words))))
+      (λ b k block some low. counted_agrees schema sp (true_count sp (records sp words)) (table schema sp sound kind_names (facilities sp)) b k block.here (agrees b k block some low))

@@ -12,9 +12,12 @@ pub mod DemoRecords
 pub mod FacilitiesBack
 pub mod DemoFacilities
 pub mod AgreeBack
+pub mod CountedAgree
 pub mod DemoAgrees
 pub mod DemoTexts
 pub mod Lengths
 pub mod SpineLength
 pub mod Accepted
+pub mod SameReadings
+pub mod InputsAre
 mod Worked

@@ -3,3 +3,4 @@ pub mod FacilitiesText
 pub mod DemoEntries
 pub mod DemoRecords
 pub mod Laws
+pub mod Inputs
