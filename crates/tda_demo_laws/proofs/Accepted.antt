@@ -1,10 +1,9 @@
 -- The demo's files are accepted, are short, and agree.
 use Rattle.std.proofs.Common.{◌≡◌, ℕ, ◌≤◌, ◌^◌, length, Ok, refl, sym, ap, subst, ◌∙◌, arith}
-use Rattle.tda_schema.specs.Read as schema_file
 use Rattle.tda_spine.specs.Judged as spine_file
 use Rattle.tda_invar.specs.Facilities as facilities_file
 use Rattle.tda_records.specs.Records as records_file
-use Rattle.tda_demo.specs.Demo.{spine, spine_text, facilities_text, records_text}
+use Rattle.tda_demo.specs.Demo.{spine, spine_text, facilities_text}
 use Rattle.tda_demo.specs.DemoSpine as regular
 use Rattle.tda_demo.specs.Persons.{word}
 use Rattle.tda_demo.specs.Schema.{schema}

@@ -6,7 +6,7 @@ use Rattle.std.proofs.lemmas.List.{map-append}
 use Rattle.tda_io.specs.Csv.{Row}
 use Rattle.tda_io.specs.Texts.{row_text}
 use Rattle.tda_model.specs.Schema.{Schema}
-use Rattle.tda_model.specs.Spine.{Spine, code_of}
+use Rattle.tda_model.specs.Spine.{Spine}
 use Rattle.tda_records.specs.declared.records.Record.{Record}
 use Rattle.tda_demo.specs.Demo.{facilities_text, records_text}
 use Rattle.tda_demo.specs.DemoSpine.{spine}

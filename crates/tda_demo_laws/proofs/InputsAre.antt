@@ -1,5 +1,5 @@
 -- The demo's files are acceptable, and what the readers give of them are the demo's inputs.
-use Rattle.std.proofs.Common.{◌≡◌, ℕ, ◌≤◌, ◌<◌, ◌^◌, length, List, Ok, refl, sym, ap, subst, ◌∙◌, arith}
+use Rattle.std.proofs.Common.{◌≡◌, ℕ, ◌≤◌, ◌^◌, length, sym, ap, subst, ◌∙◌}
 use Rattle.tda_schema.specs.Read as schema_file
 use Rattle.tda_spine.specs.Judged as spine_file
 use Rattle.tda_invar.specs.Facilities as facilities_file

@@ -1,5 +1,5 @@
 -- Two readings of one text give the same.
-use Rattle.std.proofs.Common.{◌≡◌, ℕ, List, Result, Ok, sym, ap, ◌∙◌}
+use Rattle.std.proofs.Common.{◌≡◌, Result, Ok, sym, ap, ◌∙◌}
 use Rattle.tda_model.specs.Schema.{Schema}
 use Rattle.tda_model.specs.Spine.{Spine}
 use Rattle.tda_schema.specs.Read as schema_file
@@ -7,7 +7,6 @@ use Rattle.tda_spine.specs.Judged as spine_file
 use Rattle.tda_invar.specs.Facilities as facilities_file
 use Rattle.tda_invar.specs.KindTable.{NumberTable}
 use Rattle.tda_records.specs.Records as records_file
-use Rattle.tda_records.specs.declared.records.Record.{Record}
 use Rattle.tda_out.specs.Counts.{Counts, count_at, counts_of}
 use Rattle.tda_hist.specs.Agreement.{agree_due}
 use Rattle.tda_hist.specs.TrueTable.{true_count}

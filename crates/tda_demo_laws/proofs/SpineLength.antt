@@ -40,4 +40,3 @@ module _ (s : Schema) (sp : Spine) (sound : IsSound sp) (named : (l : ℕ) → l
       let first : length (row_text header) ≡ 18 = refl in
       let all = length-append (row_text header) (flat_map row_text (unit_rows s sp)) in
       omega (arith, body, count, few, first, all)
-

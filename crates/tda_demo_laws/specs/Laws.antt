@@ -1,7 +1,7 @@
 -- What each demo keeps: the readers accept its files, and its records agree with its facilities.
 use Rattle.std.specs.Prelude.{◌≡◌, ◌+◌, ◌*◌, ◌≤◌, ◌<◌, ◌^◌, ℕ, List, length, Ok}
 use Rattle.tda_model.specs.Groups.{kind_count}
-use Rattle.tda_model.specs.Spine.{Spine, IsUnit}
+use Rattle.tda_model.specs.Spine.{IsUnit}
 use Rattle.tda_schema.specs.Read as schema_file
 use Rattle.tda_spine.specs.Judged as spine_file
 use Rattle.tda_spine.specs.Sound.{IsSound}

@@ -11,5 +11,4 @@ pub fn demo_is_accepted(number: u64, size: u32)
     ensures accepted { AreAccepted number size }
     ensures short { AreShort number size }
     ensures sized { IsSized size }
-{
-}
+{}

@@ -4,6 +4,8 @@
 mod inputs;
 mod law;
 mod reading;
+#[cfg(test)]
+mod tests;
 
 pub use inputs::{DemoInputs, demo_inputs};
 pub use law::demo_is_accepted;

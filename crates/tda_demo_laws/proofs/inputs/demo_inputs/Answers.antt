@@ -1,6 +1,6 @@
 use Rattle.std.proofs.Common.{Result, Ok, Err}
 use Rattle.std.specs.Result.{IfOk}
-use Rattle.tda_demo_laws.proofs.InputsAre.{acceptable, inputs_are, HasTexts}
+use Rattle.tda_demo_laws.proofs.InputsAre.{acceptable, inputs_are}
 use Rattle.tda_demo_laws.proofs.inputs.demo_inputs.Goals as goal
 
 on_ok : {A E : Type 0} (P Q : A → Type 0) (r : Result A E) → ((x : A) → P x → Q x) → IfOk r P → IfOk r Q
