@@ -22,7 +22,7 @@ use Rattle.tda_fitnet.proofs.NationShares.{each_state, state_each}
 use Rattle.tda_prices.specs.Items.{Pricing}
 use Rattle.tda_audit.specs.Arcs.{IsSettled, arc_of}
 use Rattle.tda_audit.specs.Certified.{Keeps, Certifies, IsUnitSettled}
-use Rattle.tda_audit.specs.Verdicts.{of_cells, give_names, group_names, names_of, sides_of, all_verdicts, fails, verdict}
+use Rattle.tda_audit.specs.Verdicts.{of_cells, give_names, group_names, names_of, sides_of, all_rules, all_verdicts, fails, verdict}
 use Rattle.tda_audit.specs.declared.verdict.Verdict.{Verdict}
 use Rattle.tda_audit.specs.declared.verdict.Verdict.TheVariants.{Yes, Sum, Impossible, Total, Kind, Arc}
 use Rattle.tda_audit.proofs.Eaches.{each_append, append_each, each_joined, joined_each, each_mapped, mapped_each, none_found, found_none, found_passes}
@@ -156,29 +156,36 @@ module _ (c : Curve) (i : Inputs) (groups : ℕ → List (List ℕ)) (x : Tables
   abbrev arc_list : List Verdict
   arc_list = flat_map (sides_of i groups) (fits_of sp)
 
-  record AllFine : Type 0 where
+  record RulesFine : Type 0 where
     pub sum_fine : Each Fine sum_list
     pub impossible_fine : Each Fine impossible_list
     pub total_fine : Each Fine total_list
     pub kind_fine : Each Fine kind_list
+
+  record AllFine : Type 0 where
+    pub rules_fine : RulesFine
     pub arc_fine : Each Fine arc_list
+
+  to_rules : Each Fine (all_rules s sp) → RulesFine
+  to_rules h =
+      let a = append_each Fine sum_list (impossible_list ++ (total_list ++ kind_list)) h in
+      let b = append_each Fine impossible_list (total_list ++ kind_list) a.1 in
+      let d = append_each Fine total_list kind_list b.1 in
+      record { sum_fine = a.0; impossible_fine = b.0; total_fine = d.0; kind_fine = d.1 }
 
   to_parts : Each Fine (all_verdicts i groups) → AllFine
   to_parts h =
       let all = append_each Fine (sum_list ++ (impossible_list ++ (total_list ++ kind_list))) arc_list h in
-      let a = append_each Fine sum_list (impossible_list ++ (total_list ++ kind_list)) all.0 in
-      let b = append_each Fine impossible_list (total_list ++ kind_list) a.1 in
-      let d = append_each Fine total_list kind_list b.1 in
-      record { sum_fine = a.0; impossible_fine = b.0; total_fine = d.0; kind_fine = d.1; arc_fine = all.1 }
+      record { rules_fine = to_rules all.0; arc_fine = all.1 }
 
   from_parts : AllFine → Each Fine (all_verdicts i groups)
   from_parts h =
       each_append Fine (sum_list ++ (impossible_list ++ (total_list ++ kind_list))) arc_list
-      (each_append Fine sum_list (impossible_list ++ (total_list ++ kind_list)) h.sum_fine
-      (each_append Fine impossible_list (total_list ++ kind_list) h.impossible_fine (each_append Fine total_list kind_list h.total_fine h.kind_fine)))
+      (each_append Fine sum_list (impossible_list ++ (total_list ++ kind_list)) h.rules_fine.sum_fine
+      (each_append Fine impossible_list (total_list ++ kind_list) h.rules_fine.impossible_fine (each_append Fine total_list kind_list h.rules_fine.total_fine h.rules_fine.kind_fine)))
       h.arc_fine
 
-  keeps_of : AllFine → Keeps i x
+  keeps_of : RulesFine → Keeps i x
   keeps_of h = record {
     sums = λ p j here inner lj.
         same_of _ _ (numbers_each (cell_count s) (λ j. Fine (Sum p j))
@@ -205,7 +212,7 @@ module _ (c : Curve) (i : Inputs) (groups : ℕ → List (List ℕ)) (x : Tables
       let root = root_of all.0 in
       let splits : Each (λ p. Each (Settled (Some p)) (names_of i groups (Some p))) (parents_of sp) = mapped_each (λ fit. Each (Settled fit) (names_of i groups fit)) Some (parents_of sp) all.1 in
       record {
-        keeps = keeps_of h;
+        keeps = keeps_of h.rules_fine;
         shares = λ st k here at lk. state_each sp tree StateSettled root.states st here at k lk;
         nation = root.unit;
         children = λ p u hp hu up.
@@ -216,7 +223,8 @@ module _ (c : Curve) (i : Inputs) (groups : ℕ → List (List ℕ)) (x : Tables
 
   fine_of : Certifies c i groups x price → AllFine
   fine_of h =
-      let keeps = h.keeps in record {
+      let keeps = h.keeps in
+      let rules : RulesFine = record {
         sum_fine = each_cells Sum (filter (is_inner sp) (unit_numbers sp)) (each_filter (λ u. Each (λ j. Fine (Sum u j)) (all_cells s)) (is_inner sp) (unit_numbers sp)
             (each_unit (λ u. is_inner sp u ≡ true → Each (λ j. Fine (Sum u j)) (all_cells s)) (λ u here inner. each_number (cell_count s) (λ j. Fine (Sum u j)) (λ j lj. of_same _ _ (keeps.sums u j here (ltb-true _ _ inner) lj)))));
         impossible_fine = each_cells Impossible (unit_numbers sp)
@@ -224,6 +232,8 @@ module _ (c : Curve) (i : Inputs) (groups : ℕ → List (List ℕ)) (x : Tables
         total_fine = each_mapped Fine Total (units_at sp 1) (each_state sp tree (λ st. Fine (Total st)) (λ st here at. of_same _ _ (keeps.totals st here at)));
         kind_fine = each_joined Fine kinds_at (unit_numbers sp)
             (each_unit (λ u. Each Fine (kinds_at u)) (λ u here. each_mapped Fine (Kind u) (range_with_len 0 (kind_count s)) (each_number (kind_count s) (λ k. Fine (Kind u k)) (λ k lk. of_within _ _ _ (keeps.enough u k here lk) (keeps.not_more u k here lk)))));
+      } in record {
+        rules_fine = rules;
         arc_fine = (
             each_append Fine (sides_of i groups None) (flat_map (sides_of i groups) (map Some (parents_of sp)))
             (each_sides None (of_root (record { states = each_state sp tree StateSettled (λ st here at k lk. h.shares st k here at lk); unit = h.nation })))
@@ -231,6 +241,9 @@ module _ (c : Curve) (i : Inputs) (groups : ℕ → List (List ℕ)) (x : Tables
             (each_weaker (IsInner sp) (λ p. Each Fine (sides_of i groups (Some p))) (parents_of sp) (λ p inner. each_sides (Some p) (of_split p (λ u hu up. h.children p u inner.here hu up))) (parents_inner sp tree))))
             );
       }
+
+  pub rules_keep : find (fails i groups c x price) (all_rules i.schema i.spine) ≡ None → Keeps i x
+  rules_keep e = keeps_of (to_rules (found_none (fails i groups c x price) (all_rules s sp) e))
 
   -- ---- the verdict
   no_fault : verdict i groups c x price ≡ Yes → find (fails i groups c x price) (all_verdicts i groups) ≡ None

@@ -18,3 +18,9 @@ pub mod Walks
 pub mod Passes
 pub mod Rows
 pub mod SumsBy
+pub mod ArcWalks
+pub mod Judged
+pub mod Rises
+pub mod ChildArcs
+pub mod PriceParts
+pub mod Deviations

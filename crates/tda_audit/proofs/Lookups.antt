@@ -133,7 +133,7 @@ module _ (i : Inputs) (price : Pricing) where
     cells_long : length cells ≡ length (possible_cells s)
     cells_long = length-map (possible_cells s) OfCell
 
-    split_long : length split_items ≡ length (possible_cells s) + length (children_of sp p) * length t.groups
+    pub split_long : length split_items ≡ length (possible_cells s) + length (children_of sp p) * length t.groups
     split_long = length-append cells (flat_map (unit_items s sp) (children_of sp p)) ∙ omega (arith, cells_long, flat_length (unit_items s sp) (length t.groups) (children_of sp p) (each_long (children_of sp p) counts))
 
     pub split_source : (r : ℕ) → r < SL.cells → price_at (pos 0 ∷ prices_of i.schema i.spine price (Some p)) (source_node r) ≡ price (Some p) (OfCell (cell_at i r))

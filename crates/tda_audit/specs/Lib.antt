@@ -4,3 +4,5 @@ pub mod Verdicts
 pub mod Fitted
 pub mod Answers
 pub mod Options
+pub mod Trees
+pub mod Prices

@@ -27,6 +27,14 @@ side_fails Down a = nat_lt a.low a.flow && int_lt a.rise (a.cost a.flow -ℤ a.c
 abbrev pub both_sides : List Side
 both_sides = Up ∷ Down ∷ []
 
+-- the side on which an arc fails first
+abbrev pub failing : PricedArc → Option Side
+failing a = find (λ side. side_fails side a) both_sides
+
+-- both sides of each of these arcs of a fit
+abbrev pub all_sides : Option ℕ → List ArcName → List Verdict
+all_sides fit names = flat_map (λ a. map (Arc fit a) both_sides) names
+
 -- ---- all that may fail, in order
 module _ (s : Schema) (sp : Spine) where
   abbrev pub of_cells : (ℕ → ℕ → Verdict) → List ℕ → List Verdict
@@ -49,6 +57,13 @@ module _ (s : Schema) (sp : Spine) where
   abbrev pub all_rules : List Verdict
   all_rules = all_sums ++ (all_impossible ++ (all_totals ++ all_kinds))
 
+-- the shares of a state, and of all states
+abbrev pub state_share_names : Schema → ℕ → List ArcName
+state_share_names s st = map (Share st) (range_with_len 0 (kind_count s))
+
+abbrev pub share_names : Inputs → List ArcName
+share_names i = flat_map (state_share_names i.schema) (units_at i.spine 1)
+
 module _ (i : Inputs) (groups : ℕ → List (List ℕ)) where
   abbrev pub give_names : ℕ → List ArcName
   give_names u = map (Give u) (possible_cells i.schema)
@@ -59,12 +74,12 @@ module _ (i : Inputs) (groups : ℕ → List (List ℕ)) where
   -- the arcs of a fit that may change
   abbrev pub names_of : Option ℕ → List ArcName
   names_of None =
-      flat_map (λ st. map (Share st) (range_with_len 0 (kind_count i.schema))) (units_at i.spine 1)
+      share_names i
       ++ (give_names (nation_of i.spine) ++ group_names (nation_of i.spine))
   names_of (Some p) = flat_map give_names (children_of i.spine p) ++ flat_map group_names (children_of i.spine p)
 
   abbrev pub sides_of : Option ℕ → List Verdict
-  sides_of fit = flat_map (λ a. map (Arc fit a) both_sides) (names_of fit)
+  sides_of fit = all_sides fit (names_of fit)
 
   abbrev pub all_verdicts : List Verdict
   all_verdicts = all_rules i.schema i.spine ++ flat_map sides_of (fits_of i.spine)
@@ -88,6 +103,10 @@ module _ (i : Inputs) (groups : ℕ → List (List ℕ)) (c : Curve) (x : Tables
   fails (Total st) = breaks i.schema i.spine i.known x (Total st)
   fails (Kind u k) = breaks i.schema i.spine i.known x (Kind u k)
   fails (Arc fit a side) = side_fails side (arc_of c i groups x price fit a)
+
+  -- the first of these arcs of a fit that fails, with its side
+  abbrev pub first_failing : Option ℕ → List ArcName → Option Verdict
+  first_failing fit names = find fails (all_sides fit names)
 
   -- the first that fails, and Yes where none does
   abbrev pub verdict : Verdict

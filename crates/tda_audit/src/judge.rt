@@ -10,6 +10,9 @@ ghost use Rattle.tda_prices.specs.Priced.{price_in};
 ghost use Rattle.tda_prices.specs.Kept.{ArePricesOf};
 ghost use Rattle.tda_audit.specs.Answers.{IsVerdict, YesTells};
 
+use crate::fits::wrong_arc;
+use crate::rules::broken_rule;
+use crate::trees::level_trees;
 use crate::verdict::Verdict;
 use std::alloc::Global;
 use tda_invar::Invariants;
@@ -28,8 +31,8 @@ use tda_spine::Spine;
 /// counts of a state add up to its total; of each kind a unit has as many as it may. Then, fit by fit and arc by arc, one more
 /// on the arc isn't worth it, nor one less. The shares of states and kinds are those of the states' tables.
 ///
-/// `NoMemory` where memory ran out, which is wanted for the groups of each level and for a count for each group of one
-/// level.
+/// `NoMemory` where memory ran out, which is wanted for the groups of each level, a count for each kind and the terms of one
+/// group.
 pub fn audit<F: Fn(i64) -> i128>(
     alloc: Global,
     schema: &Schema,
@@ -49,6 +52,13 @@ pub fn audit<F: Fn(i64) -> i128>(
     ensures verdict { IfOk result (IsVerdict loss.now.curve (inputs_of schema.now spine.now inv.now m.now) (count_at tables.now) (price_in schema.now spine.now prices.now.numbers)) }
     ensures tells { OnOk result (YesTells loss.now.curve (inputs_of schema.now spine.now inv.now m.now)) }
 {
-    let _ = alloc;
-    Err(NoMemory)
+    // The shares are few and small, and so is their common denominator.
+    let _ = schema.levels();
+    let _ = schema.common();
+    let trees = level_trees(alloc, schema)?;
+    if let Some(verdict) = broken_rule(alloc, schema, spine, inv, tables)? {
+        return Ok(verdict);
+    }
+    let wrong = wrong_arc(alloc, schema, spine, &trees, inv, m, tables, prices, loss)?;
+    Ok(wrong.unwrap_or(Verdict::Yes))
 }

@@ -1,12 +1,17 @@
 //! The judge of tables and prices.
 #![tactic(auto)]
 
-mod arcs;
+mod bounds;
 mod distance;
+mod fits;
+mod gives;
+mod groups;
 mod judge;
 mod rules;
+mod shares;
 mod side;
 mod terms;
+mod trees;
 mod verdict;
 
 pub use distance::deviation;

@@ -124,7 +124,7 @@ fn wrong_total(schema: &Schema, spine: &Spine, inv: &Invariants, tables: &Tables
 }
 
 // Counts a unit's persons by kind.
-fn count_kinds(schema: &Schema, tables: &Tables, unit: u32, counts: &mut [u64])
+pub(crate) fn count_kinds(schema: &Schema, tables: &Tables, unit: u32, counts: &mut [u64])
     requires unit { unit < length tables.now }
     requires cells { cell_count schema.now ≡ length (slice_index_or tables.now unit []) }
     requires size { length counts.old ≡ kind_count schema.now }

@@ -1,9 +1,10 @@
 // What the persons of a unit's group cost.
-ghost use Rattle.std.specs.Prelude.{◌≡◌, ◌<◌, length, OnOk};
+ghost use Rattle.std.specs.Prelude.{◌≡◌, ◌<◌, length, IfSome, OnOk};
 ghost use Rattle.tda_model.specs.Spine.{IsUnit, level_of};
 ghost use Rattle.tda_schema.specs.Stated.{level_at, queries_at, query_at};
 ghost use Rattle.tda_invar.specs.Known.{JoinedLists};
 ghost use Rattle.tda_places.specs.Measurements.{AreMeasurementsOf};
+ghost use Rattle.tda_flow.specs.Network.{IsNetTerm, AreNetTerms};
 ghost use Rattle.tda_groups.specs.Order.{group_at};
 ghost use Rattle.tda_groups.specs.Tree.{IsTreeOf};
 ghost use Rattle.tda_fitnet.specs.Terms.{query_terms, terms_of};
@@ -35,7 +36,8 @@ fn query_term(
     requires tree { IsTreeOf schema.now (level_at schema.now (level_of spine.now unit)) tree.now }
     requires group { group < length tree.now.groups }
     requires measured { AreMeasurementsOf schema.now spine.now m.now }
-    ensures { (inv : JoinedLists) → listed result ≡ query_terms (inputs_of schema.now spine.now inv m.now) unit query (query_at schema.now (level_of spine.now unit) query) (group_at tree.now.groups group) }
+    ensures net { IfSome result IsNetTerm }
+    ensures terms { (inv : JoinedLists) → listed result ≡ query_terms (inputs_of schema.now spine.now inv m.now) unit query (query_at schema.now (level_of spine.now unit) query) (group_at tree.now.groups group) }
 {
     let level = spine.level(unit);
     let _queries = schema.queries(level);
@@ -71,7 +73,8 @@ pub(crate) fn write_terms(
     requires tree { IsTreeOf schema.now (level_at schema.now (level_of spine.now unit)) tree.now }
     requires group { group < length tree.now.groups }
     requires measured { AreMeasurementsOf schema.now spine.now m.now }
-    ensures { (inv : JoinedLists) → OnOk result (terms.new.items ≡ terms_of (inputs_of schema.now spine.now inv m.now) (level_at schema.now (level_of spine.now unit)) unit (group_at tree.now.groups group)) }
+    ensures net { OnOk result (AreNetTerms terms.new.items) }
+    ensures terms { (inv : JoinedLists) → OnOk result (terms.new.items ≡ terms_of (inputs_of schema.now spine.now inv m.now) (level_at schema.now (level_of spine.now unit)) unit (group_at tree.now.groups group)) }
 {
     terms.clear();
     let level = spine.level(unit);

@@ -19,6 +19,10 @@ use Rattle.tda_records.specs.declared.fault.RecFault.{RecFault}
 use Rattle.tda_records.specs.declared.fault.RecFault.TheVariants as records
 use Rattle.tda_places.specs.declared.fault.MeaFault.{MeaFault}
 use Rattle.tda_places.specs.declared.fault.MeaFault.TheVariants as measurements
+use Rattle.tda_prices.specs.declared.fault.TabFault.{TabFault}
+use Rattle.tda_prices.specs.declared.fault.TabFault.TheVariants as tables
+use Rattle.tda_prices.specs.declared.fault.PriFault.{PriFault}
+use Rattle.tda_prices.specs.declared.fault.PriFault.TheVariants as prices
 use Rattle.tda_hist.specs.declared.fault.HistFault.{HistFault}
 use Rattle.tda_hist.specs.declared.fault.HistFault.TheVariants as hist
 use Rattle.tda_refusal.specs.declared.text.Plain.{Plain}
@@ -114,6 +118,22 @@ measurements_text (measurements.TooMany row) = numbered (codes "TooMany") row
 measurements_text measurements.Missing = codes "Missing"
 measurements_text measurements.NoMemory = []
 
+abbrev pub tables_text : TabFault → List ℕ
+tables_text (tables.BadRow row) = numbered (codes "BadRow") row
+tables_text (tables.BadHeader row) = numbered (codes "BadHeader") row
+tables_text (tables.WrongPlace row) = numbered (codes "WrongPlace") row
+tables_text (tables.BadNumber row) = numbered (codes "BadNumber") row
+tables_text tables.NoMemory = []
+
+abbrev pub prices_text : PriFault → List ℕ
+prices_text (prices.BadRow row) = numbered (codes "BadRow") row
+prices_text (prices.BadHeader row) = numbered (codes "BadHeader") row
+prices_text (prices.WrongPlace row) = numbered (codes "WrongPlace") row
+prices_text (prices.BadNumber row) = numbered (codes "BadNumber") row
+prices_text (prices.TooMany row) = numbered (codes "TooMany") row
+prices_text prices.Missing = codes "Missing"
+prices_text prices.NoMemory = []
+
 -- the name of a kind of quarters: a value of the first attribute
 abbrev pub kind_name : Schema → ℕ → List ℕ
 kind_name s kind = slice_index_or (values_of s 0) kind []
@@ -135,6 +155,8 @@ plain_text (plain.Spine fault) = spine_text fault
 plain_text (plain.Facilities fault) = facilities_text fault
 plain_text (plain.Records fault) = records_text fault
 plain_text (plain.Measurements fault) = measurements_text fault
+plain_text (plain.Tables fault) = tables_text fault
+plain_text (plain.Prices fault) = prices_text fault
 
 abbrev pub named_text : Schema → Spine → Named → List ℕ
 named_text s sp (named.Totals fault) = totals_text sp fault

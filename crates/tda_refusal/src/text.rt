@@ -9,6 +9,7 @@ use tda_hist::HistFault;
 use tda_invar::{FacFault, JoinFault, TotFault};
 use tda_io::NoMemory;
 use tda_places::MeaFault;
+use tda_prices::{PriFault, TabFault};
 use tda_records::RecFault;
 use tda_schema::{Schema, SchemaFault};
 use tda_spine::{Spine, SpineFault};
@@ -25,6 +26,8 @@ pub enum Plain {
     Facilities(FacFault),
     Records(RecFault),
     Measurements(MeaFault),
+    Tables(TabFault),
+    Prices(PriFault),
 }
 
 /// Why a file isn't accepted, said with the codes of units and the names of kinds.
@@ -218,6 +221,36 @@ fn push_measurements(fault: MeaFault, out: &mut Vec<u8>) -> Result<(), NoMemory>
     }
 }
 
+// Appends the name of a fault of tables, and the row that it carries.
+fn push_tables(fault: TabFault, out: &mut Vec<u8>) -> Result<(), NoMemory>
+    ensures ok { OnOk result (out.new.items ≡ out.old.items ++ spec.tables_text fault) }
+    ensures err { OnErr result (out.new.items ≡ out.old.items) }
+{
+    match fault {
+        TabFault::BadRow(row) => push_numbered(out, "BadRow", row),
+        TabFault::BadHeader(row) => push_numbered(out, "BadHeader", row),
+        TabFault::WrongPlace(row) => push_numbered(out, "WrongPlace", row),
+        TabFault::BadNumber(row) => push_numbered(out, "BadNumber", row),
+        TabFault::NoMemory => Ok(()),
+    }
+}
+
+// Appends the name of a fault of prices, and the row that it carries.
+fn push_prices(fault: PriFault, out: &mut Vec<u8>) -> Result<(), NoMemory>
+    ensures ok { OnOk result (out.new.items ≡ out.old.items ++ spec.prices_text fault) }
+    ensures err { OnErr result (out.new.items ≡ out.old.items) }
+{
+    match fault {
+        PriFault::BadRow(row) => push_numbered(out, "BadRow", row),
+        PriFault::BadHeader(row) => push_numbered(out, "BadHeader", row),
+        PriFault::WrongPlace(row) => push_numbered(out, "WrongPlace", row),
+        PriFault::BadNumber(row) => push_numbered(out, "BadNumber", row),
+        PriFault::TooMany(row) => push_numbered(out, "TooMany", row),
+        PriFault::Missing => push_name(out, "Missing"),
+        PriFault::NoMemory => Ok(()),
+    }
+}
+
 // The name of a kind of quarters.
 fn kind_name(schema: &Schema, kind: u16) -> &str
     requires { kind < kind_count schema.now }
@@ -289,6 +322,8 @@ pub fn push_plain(fault: &Plain, out: &mut Vec<u8>) -> Result<(), NoMemory>
         Plain::Facilities(fault) => push_facilities(*fault, out),
         Plain::Records(fault) => push_records(*fault, out),
         Plain::Measurements(fault) => push_measurements(*fault, out),
+        Plain::Tables(fault) => push_tables(*fault, out),
+        Plain::Prices(fault) => push_prices(*fault, out),
     }
 }
 

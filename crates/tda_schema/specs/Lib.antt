@@ -1,12 +1,5 @@
 pub mod Stated
 pub mod Readers
-pub mod Raw
-pub mod Keys
-pub mod Typed
-pub mod Origins
-pub mod Names
-pub mod Sizes
-pub mod Known
 pub mod Lowest
 pub mod Shares
 pub mod Stating
@@ -18,3 +11,4 @@ pub mod Columns
 pub mod Classes
 pub mod Digits
 pub mod Levels
+pub mod DocumentFaults

@@ -25,8 +25,14 @@ at-requires-clause-place c = is_place c.args.schema.now c.args.spine.now c.args.
 abbrev one : ℕ → ℤ → Term
 one w z = record { weight = w; target = z }
 
-pub returns-then-class_group-group : goal.returns-then-class_group-group
-returns-then-class_group-group c inv =
+pub returns-then-class_group-group-clause-net : goal.returns-then-class_group-group-clause-net
+returns-then-class_group-group-clause-net c = record {
+  weight = c.weight.ensures.limit;
+  target = record { low = omega (arith, ints, c.at.ensures.limit); high = omega (arith, ints, c.at.ensures.limit) };
+}
+
+pub returns-then-class_group-group-clause-terms : goal.returns-then-class_group-group-clause-terms
+returns-then-class_group-group-clause-terms c inv =
     let s = c.args.schema.now in
     let own = level_of c.args.spine.now c.args.unit in
     let m = c.class_group.result in
@@ -38,8 +44,8 @@ returns-then-class_group-group c inv =
     ∙ ap (λ w. one w (measured_at s c.args.spine.now c.args.m.now (place c.args.unit c.args.query c.class_of-class.result)) ∷ []) weight
     ∙ sym terms
 
-pub returns-else-class_group-group : goal.returns-else-class_group-group
-returns-else-class_group-group c inv =
+pub returns-else-class_group-group-clause-terms : goal.returns-else-class_group-group-clause-terms
+returns-else-class_group-group-clause-terms c inv =
     let s = c.args.schema.now in
     let own = level_of c.args.spine.now c.args.unit in
     let m = c.class_group.result in
