@@ -11,7 +11,7 @@ use Rattle.tda_schema.specs.Parts.{is_nested, has_kinds}
 use Rattle.toml.specs.Data.{array, integer, item, member, no_items, no_members, string, table, Members}
 use Rattle.toml.specs.Parse.{parse_document}
 use Rattle.toml.proofs.OnLiterals.{toml_on_literals}
-use Rattle.tda_schema.specs.Raw.{RawSchema}
+use Rattle.tda_document.specs.Raw.{RawSchema}
 use Rattle.tda_schema.specs.Read.{looked_up, raw_of, read}
 use Rattle.tda_schema.specs.Lowest.{gcd, lcm, lowest, written_in}
 use Rattle.tda_demo.specs.Schema.{schema}
