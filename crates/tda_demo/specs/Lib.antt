@@ -1,0 +1,12 @@
+pub mod Text
+pub mod Schema
+pub mod Names
+pub mod Preorder
+pub mod PreorderRows
+pub mod SpineText
+pub mod DemoSpine
+pub mod BlockCodes
+pub mod Facilities
+pub mod Persons
+pub mod People
+pub mod Demo

@@ -1,0 +1,23 @@
+pub mod SchemaSteps
+pub mod Document
+pub mod OpenRows
+pub mod SpineBack
+pub mod SpineTexts
+pub mod RegularTree
+pub mod Distinct
+pub mod ChildCounts
+pub mod SpineAccepted
+pub mod RecordsBack
+pub mod DemoRecords
+pub mod FacilitiesBack
+pub mod DemoFacilities
+pub mod AgreeBack
+pub mod CountedAgree
+pub mod DemoAgrees
+pub mod DemoTexts
+pub mod Lengths
+pub mod SpineLength
+pub mod Accepted
+pub mod SameReadings
+pub mod InputsAre
+mod Worked
