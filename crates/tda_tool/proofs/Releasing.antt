@@ -9,7 +9,7 @@ use Rattle.tda_model.specs.Spine.{Spine, IsUnit, IsTree, level_of, nation_of, ch
 use Rattle.tda_model.specs.Tables.{Tables}
 use Rattle.tda_model.specs.Release.{Inputs, CanBe, IsRelease, deviation_at}
 use Rattle.tda_model.proofs.Sums.{Each, sum_le}
-use Rattle.tda_model.proofs.FitOrder.{parents_each, each_inner, inner_has}
+use Rattle.tda_model.proofs.FitOrder.{parents_each, inner_has}
 use Rattle.tda_model.proofs.Releases.{splits_from_order}
 use Rattle.tda_spine.specs.Judged.{fits_of}
 use Rattle.tda_spine.specs.Sound.{IsSound}
@@ -42,13 +42,9 @@ some_one [] some = absurd (some refl)
 some_one (x ∷ xs) some = let e = ones_are (x ∷ xs) in omega arith
 
 module _ (sp : Spine) (tree : IsTree sp (nation_of sp)) where
-  -- a unit with children is one of those in fit order
-  among : (u : ℕ) → IsUnit sp u → level_of sp u + 1 < sp.depth → Each (λ p. p ≢ u) (parents_of sp) → ⊥
-  among u here above none = each_inner sp tree (λ p. p ≢ u) none u here above refl
-
   few_parents : length (parents_of sp) + 1 ≤ length (unit_numbers sp)
   few_parents =
-      let all = units_once sp tree among (λ u. 1) in
+      let all = units_once sp tree (λ u. 1) in
       let each = sum_le (λ p. 1) (λ p. ones (children_of sp p)) (parents_of sp) (parents_each sp tree (λ p. 1 ≤ ones (children_of sp p)) (λ p here above. some_one (children_of sp p) (inner_has sp tree p here above))) in
       let parents = ones_are (parents_of sp) in
       let units = ones_are (unit_numbers sp) in
@@ -120,7 +116,7 @@ module _ (i : Inputs) (sound : IsSound i.spine) (fits : List Fit) (first : AreFi
       let root = sum_by-cons of_fit None (map Some (parents_of i.spine)) in
       let nation = alone (nation_of i.spine) in
       let splits = splits_add (parents_of i.spine) in
-      let units = units_once i.spine sound.tree (among i.spine sound.tree) own in
+      let units = units_once i.spine sound.tree own in
       omega arith
 
   each_small : (fs : List Fit) → Each (IsFitOf Square i x) fs → Each (λ fit. fit.deviation ≤ 2 ^ 110) fs

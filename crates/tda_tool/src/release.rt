@@ -1,6 +1,7 @@
 // The fits of a release, and their texts.
-ghost use Rattle.std.specs.Prelude.{◌≡◌, IfOk};
-ghost use Rattle.tda_model.specs.Sizes.{nodes_limit, arcs_limit};
+ghost use Rattle.std.specs.Prelude.{◌≤◌, All, IfOk};
+ghost use Rattle.tda_model.specs.Sizes.{fit_size};
+ghost use Rattle.tda_spine.specs.Judged.{IsWithinLimits, fits_of};
 ghost use Rattle.tda_invar.specs.Known.{known_of};
 ghost use Rattle.tda_tool.specs.Fitting.{inputs_by};
 ghost use Rattle.tda_tool.specs.Reading.{AreInputs};
@@ -70,17 +71,16 @@ impl Texts {
     }
 }
 
-// How many nodes and arcs the network of a fit has at most.
-const NODES: u32 = 2048;
-
-const ARCS: usize = 65536;
-
-// A solver of the network of any fit.
-fn new_solver(alloc: Global) -> Result<Scale, NoMemory>
-    ensures nodes { IfOk result (λ s. s.nodes ≡ nodes_limit) }
-    ensures arcs { IfOk result (λ s. s.arcs ≡ arcs_limit) }
+// A solver that is as large as the largest fit.
+fn new_solver(alloc: Global, schema: &Schema, spine: &Spine) -> Result<Scale, NoMemory>
+    requires { IsWithinLimits schema.now spine.now }
+    ensures nodes { IfOk result (λ s. All (λ fit. (fit_size schema.now spine.now fit).nodes ≤ s.nodes) (fits_of spine.now)) }
+    ensures arcs { IfOk result (λ s. All (λ fit. (fit_size schema.now spine.now fit).arcs ≤ s.arcs) (fits_of spine.now)) }
 {
-    Scale::new(alloc, NODES, ARCS)
+    // The units are a tree.
+    let _ = spine.units();
+    let largest = spine.largest_fit(schema);
+    Scale::new(alloc, largest.nodes, largest.arcs)
 }
 
 /// The files of a release: at each fit the tables are least ones, as its prices show.
@@ -94,7 +94,7 @@ pub(crate) fn release_texts(
     requires { AreInputs schema.now spine.now invariants.now measurements.now }
     ensures { IfOk result (AreTextsOf (inputs_by schema.now spine.now (known_of spine.now invariants.now) measurements.now)) }
 {
-    let mut solver = new_solver(alloc)?;
+    let mut solver = new_solver(alloc, schema, spine)?;
     let loss = Loss::new(Curve::Square, square);
     let mut texts = Texts::new(alloc)?;
     // The units are a tree.

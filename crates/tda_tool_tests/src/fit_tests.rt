@@ -150,6 +150,35 @@ fn ties_have_one_deviation(rt: HostRuntime) -> Result<(), Fail> {
     Ok(())
 }
 
+// A spine of 64 blocks, and measurements that give all persons to the last of them.
+fn many_blocks(alloc: Global) -> Result<(String, String), Fail> {
+    let mut spine = String::from_str(alloc, "unit,level,parent\nUS,nation,\nS1,state,US\n")?;
+    let mut measured = String::from_str(alloc, "unit,query,class,value\n")?;
+    for block in 1..65 {
+        let persons = if block == 64 { 1_073_741_824 } else { 0 };
+        spine.push_str(format!(in alloc; "B{block},block,S1\n")?.as_str())?;
+        measured.push_str(format!(in alloc; "B{block},total,0,{persons}\n")?.as_str())?;
+    }
+    Ok((spine, measured))
+}
+
+// All persons start in the first block. A solver that moved them one by one would not end within a test.
+#[test]
+fn many_persons_move_at_once(rt: HostRuntime) -> Result<(), Fail> {
+    let (spine, measured) = many_blocks(rt.alloc())?;
+    let texts = [
+        HOUSES,
+        spine.as_str(),
+        FACILITIES,
+        "state,total\nS1,1073741824\n",
+        measured.as_str(),
+    ];
+    let shown = ran(rt.alloc(), FIT, texts, 0, 0)?;
+    let want = "0|t=unit,cell,count\nUS,0,1073741824\nS1,0,1073741824\nB64,0,1073741824\n|p|-=ok fit fits=3 deviation=0\n";
+    assert_eq!(rt; shown.as_str(), want);
+    Ok(())
+}
+
 // A schema, a spine, facilities and totals, and what `fit` comes to.
 const REFUSED: [([&str; 5], &str); 24] = [
     (

@@ -2,16 +2,9 @@ use Rattle.std.proofs.Common.{rules, of_calls, subst}
 use Rattle.tda_invar.specs.Known.{known_of}
 use Rattle.tda_descent.specs.Fits.{AreFirstFits}
 use Rattle.tda_tool.specs.Fitting.{inputs_by}
-use Rattle.tda_tool.proofs.FitSizes.{nodes_fit, arcs_fit}
 use Rattle.tda_tool.proofs.Kept.{all_taken, next_takes}
 use Rattle.tda_tool.proofs.Releasing.{texts_released}
 use Rattle.tda_tool.proofs.release.release_texts.Goals as goal
-
-pub descend-fitted-requires-clause-nodes : goal.descend-fitted-requires-clause-nodes
-descend-fitted-requires-clause-nodes c = nodes_fit c.args.schema.now c.args.spine.now c.units.ensures.sound.tree c.requires.limits _ c.in_ok-solver.ensures.nodes
-
-pub descend-fitted-requires-clause-arcs : goal.descend-fitted-requires-clause-arcs
-descend-fitted-requires-clause-arcs c = arcs_fit c.args.schema.now c.args.spine.now c.units.ensures.sound.tree c.requires.limits _ c.in_ok-solver.ensures.arcs
 
 pub descend-fitted-requires-clause-keep : goal.descend-fitted-requires-clause-keep
 descend-fitted-requires-clause-keep c = λ fits last formed goes fit is y same a b d e f g.
