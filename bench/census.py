@@ -1,4 +1,4 @@
-"""What a schema says, worked out from its file anew: cells, classes of queries, and the groups of each level with their tree."""
+"""What a schema says, worked out from its file anew: cells, classes of queries, and the groups of each level."""
 import fractions
 import itertools
 import math
@@ -39,7 +39,8 @@ class Schema:
         rows = list(itertools.product(*values))
 
         def is_possible(row):
-            return not any(all(row[names.index(key)] in listed for key, listed in zero.items()) for zero in document.get("zero", []))
+            zeros = document.get("zero", [])
+            return not any(all(row[names.index(key)] in listed for key, listed in zero.items()) for zero in zeros)
 
         def label(row, entry):
             if entry in names:

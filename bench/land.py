@@ -1,10 +1,10 @@
 #!/usr/bin/env python3
 """Writes a land as `tda fit` reads it: schema, spine, facilities, totals, and measurements with rounded Gaussian noise.
 
-Units have children in skewed numbers, and blocks have persons in skewed numbers. What persons are differs from state to
-state, county to county and tract to tract. Some blocks hold a dormitory or a prison.
-Usage: bench/land.py NAME FOLDER [PARTS]   (NAME: narrow, tall, wide or large; with PARTS each level below the nation has so
-many times fewer units)
+Units have children in skewed numbers, and blocks have persons in skewed numbers. What persons are differs from state
+to state, county to county and tract to tract. Some blocks hold a dormitory or a prison.
+Usage: bench/land.py NAME FOLDER [PARTS]   (NAME: narrow, tall, wide or large; with PARTS each level below the nation
+has so many times fewer units)
 """
 import collections
 import dataclasses

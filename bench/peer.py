@@ -1,13 +1,14 @@
 #!/usr/bin/env python3
 """Times `tda fit` beside LEMON's network simplex (Debian's liblemon-dev), which a user without `tda` would take.
 
-Each land's release is made by land.py and fitted by `tda fit`. Then `peer/peer.cpp` works out all fits of the release anew from
-its files, with the published table of each parent, and solves each: the network simplex knows no convex costs, so each of their
-arcs is as many arcs as the window has persons, about the answer that `tda` found (which a user would have to guess). Prints for
-each land the fits, their arcs as they are and as expanded, the processor's seconds of the whole run of `tda fit` and of
-LEMON's expanding and solving alone (without reading and writing), and their ratio. The status is 1 where a fit of LEMON's costs
-less than the tables, where all fits together cost another sum than the deviation that `tda fit` reports, or where `tda fit`
-takes longer than MOST_RATIO times LEMON.
+Each land's release is made by land.py and fitted by `tda fit`. Then `peer/peer.cpp` works out all fits of the release
+anew from its files, with the published table of each parent, and solves each. The network simplex knows no convex
+costs, so each arc that has one is expanded into arcs of one person each, within a window about the answer that `tda`
+found; a user would have to guess it. Prints for each land the fits, those left out since they have more than MOST_ARCS
+arcs, the arcs as they are and as expanded, whether all costs are the same, the processor's seconds of the whole run of
+`tda fit` and of LEMON's expanding and solving alone, and their ratio. The status is 1 where a fit has another least
+cost than its tables have, where all tables together cost something else than the deviation that `tda fit` reports, or
+where `tda fit` takes longer than MOST_RATIO times LEMON.
 Usage: bench/peer.py [PROGRAM]   (made by ./tda: crates/tda/out/tda)
 """
 import pathlib
@@ -34,11 +35,12 @@ def write_schema(path, schema):
         return " ".join(str(-1 if number is None else number) for number in numbers)
 
     kind_of = {cell: kind for kind, cells in enumerate(schema.kinds) for cell in cells}
-    lines = [f"{len(schema.possible)} {len(schema.kinds)} {len(schema.levels)}", " ".join(schema.kind_names)]
+    lines = [words([len(schema.possible), len(schema.kinds), len(schema.levels)]), " ".join(schema.kind_names)]
     lines += [words(schema.possible), words(kind_of[cell] for cell in schema.possible)]
     for level in schema.levels:
         lines.append(f"{level.name} {len(level.groups)} {len(level.queries)}")
-        lines += [words(level.larger), words(level.kind_groups), words(level.smallest[cell] for cell in schema.possible)]
+        lines += [words(level.larger), words(level.kind_groups)]
+        lines.append(words(level.smallest[cell] for cell in schema.possible))
         for query, groups in zip(level.queries, level.class_groups):
             lines.append(f"{query.name} {query.weight} {len(groups)} {words(groups)}")
     path.write_text("\n".join(lines) + "\n")
@@ -92,7 +94,8 @@ def main():
         if not peer:
             print("skipped: g++ or LEMON (Debian's liblemon-dev) is missing")
             return
-        print(f"{'land':>8} {'fits':>6} {'left out':>8} {'arcs':>9} {'expanded':>10} {'costs':>6} {'tda':>8} {'LEMON':>8} {'ratio':>6}")
+        print(f"{'land':>8} {'fits':>6} {'left out':>8} {'arcs':>9} {'expanded':>10} {'costs':>6} {'tda':>8} "
+              f"{'LEMON':>8} {'ratio':>6}")
         for land, parts in LANDS:
             (folder / land).mkdir()
             kept = compare(tda, peer, folder / land, land, parts) and kept

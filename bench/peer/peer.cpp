@@ -1,12 +1,13 @@
 // Solves the fits of a release by LEMON's network simplex, which knows arcs of constant cost alone.
 //
-// So each arc with a convex cost becomes one arc for each person within a window about an answer that is known: the tables of
-// the release. A user without an answer would have to guess. Where the least cost within the window is that of the tables,
-// they are least, since costs are convex.
+// So each arc with a convex cost becomes one arc for each person within a window about an answer that is known: the
+// tables of the release. A user without an answer would have to guess. Costs are convex, so where the least cost within
+// the window is that of the tables, they are least of all.
 //
 // usage: peer FOLDER WINDOW ARCS
-// The folder holds `schema.txt` (made by peer.py), and the spine, facilities, totals, measurements and tables of the release.
-// Fits of more than so many arcs are left out. Prints one line; the status is 1 where a fit costs less than its tables.
+// The folder holds `schema.txt` (made by peer.py), and the spine, facilities, totals, measurements and tables of the
+// release. Fits of more than so many arcs are left out. Prints one line; the status is 1 where a fit has another least
+// cost than its tables have.
 #include <lemon/network_simplex.h>
 #include <lemon/smart_graph.h>
 
@@ -363,8 +364,9 @@ int main(int count, char** words) try {
         if (!unit.children.empty()) solve(split_fit(schema, all, unit), window, most_arcs, totals);
     }
     std::cout << "fits=" << totals.fits << " left_out=" << totals.left_out << " arcs=" << totals.arcs
-              << " unit_arcs=" << totals.unit_arcs << " cost=" << decimal(totals.cost) << " answer=" << decimal(totals.answer)
-              << " reading=" << reading << " expanding=" << totals.expanding << " solving=" << totals.solving << "\n";
+              << " unit_arcs=" << totals.unit_arcs << " cost=" << decimal(totals.cost)
+              << " answer=" << decimal(totals.answer) << " reading=" << reading << " expanding=" << totals.expanding
+              << " solving=" << totals.solving << "\n";
     return totals.wrong == 0 ? 0 : 1;
 } catch (const std::exception& error) {
     std::cerr << "peer: " << error.what() << "\n";
