@@ -7,8 +7,8 @@ for each the fits, the processor's seconds of the best of three runs, and the pe
 where one of the limits below is passed.
 
 With `--yard` a reference in C++ stands beside it, which proves nothing: a program that takes `--in FOLDER --out FOLDER`
-and writes the same files, with `--first none` without choosing among least tables, and with `--start first` from the
-flows that `tda` begins with, all prices 0. Its seconds are those of its whole run, from the start that it likes best and
+and writes the same files, with `--first none` without choosing among least tables, and with `--start first` from
+the flows that `tda` begins with, all prices 0. Its seconds are those of its whole run, from the start that it likes best and
 from that one. Both take some least tables, not always the same ones, so the fits below may differ.
 Usage: bench/scale.py [PROGRAM] [--yard PATH] [--only LAND]   (PROGRAM is made by ./tda: crates/tda/out/tda)
 """
@@ -54,10 +54,11 @@ def best(words, name):
 
 
 def time_yard(yard, folder, name, seconds):
-    """What the reference takes from its best start and from that of `tda`, and how much longer `tda` takes than both."""
+    """What the reference takes from its best start and from that of `tda`, and how many times longer `tda` takes."""
     words = [yard, "--in", folder, "--out", folder, "--first", "none"]
     warm, cold = best(words, name)[0], best([*words, "--start", "first"], name)[0]
-    return f" {warm:>8.3f} {seconds / warm:>6.2f} {cold:>8.3f} {seconds / cold:>6.2f}", seconds / warm <= MOST_YARD_RATIO
+    line = f" {warm:>8.3f} {seconds / warm:>6.2f} {cold:>8.3f} {seconds / cold:>6.2f}"
+    return line, seconds / warm <= MOST_YARD_RATIO
 
 
 def time_land(program, yard, folder, label):
