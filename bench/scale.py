@@ -6,10 +6,10 @@ to 265 children (left out while the program refuses such fits), and `large` 131,
 for each the fits, the processor's seconds of the best of three runs, and the peak memory in MiB. Ends with status 1
 where one of the limits below is passed.
 
-With `--yard` a reference in C++ stands beside it, which proves nothing: a program that takes `--in FOLDER --out FOLDER`
-and writes the same files, with `--first none` without choosing among least tables, and with `--start first` from
-the flows that `tda` begins with, all prices 0. Its seconds are those of its whole run, from the start that it likes best and
-from that one. Both take some least tables, not always the same ones, so the fits below may differ.
+With `--yard` a reference in C++ stands beside it, which proves nothing. It is a program that takes `--in FOLDER --out
+FOLDER` and writes the same files. With `--first none` it doesn't choose among least tables. With `--start first` it
+begins with the flows that `tda` begins with, and all prices 0. Its seconds are those of its whole run, from the start
+that it likes best and from that one. Both take some least tables, not always the same ones, so later fits may differ.
 Usage: bench/scale.py [PROGRAM] [--yard PATH] [--only LAND]   (PROGRAM is made by ./tda: crates/tda/out/tda)
 """
 import argparse
