@@ -94,7 +94,11 @@ pub(crate) fn push_numbered(out: &mut Vec<u8>, name: &str, number: u64) -> Resul
 }
 
 // Keeps so many bytes alone where memory ran out.
-pub(crate) fn or_cut(out: &mut Vec<u8>, kept: usize, pushed: Result<(), NoMemory>) -> Result<(), NoMemory>
+pub(crate) fn or_cut(
+    out: &mut Vec<u8>,
+    kept: usize,
+    pushed: Result<(), NoMemory>,
+) -> Result<(), NoMemory>
     ensures same { result ≡ pushed }
     ensures ok { OnOk result (out.new.items ≡ out.old.items) }
     ensures err { OnErr result (out.new.items ≡ take kept out.old.items) }

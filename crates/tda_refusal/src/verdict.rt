@@ -59,12 +59,7 @@ fn push_place(first: &str, second: &str, number: u32, out: &mut Vec<u8>) -> Resu
 }
 
 // Appends what an arc stands for.
-fn push_arc(
-    schema: &Schema,
-    spine: &Spine,
-    arc: ArcName,
-    out: &mut Vec<u8>,
-) -> Result<(), NoMemory>
+fn push_arc(schema: &Schema, spine: &Spine, arc: ArcName, out: &mut Vec<u8>) -> Result<(), NoMemory>
     requires { spec.ArcIsKnown schema.now spine.now arc }
     ensures ok { OnOk result (out.new.items ≡ spec.with_arc schema.now spine.now out.old.items arc) }
     ensures err { OnErr result (take (length out.old.items) out.new.items ≡ out.old.items) }
@@ -80,6 +75,15 @@ fn push_arc(
     }
 }
 
+// Appends a name and, each after a space, a unit's code and a cell's number.
+fn push_cell(name: &str, code: &str, cell: u32, out: &mut Vec<u8>) -> Result<(), NoMemory>
+    ensures ok { OnOk result (out.new.items ≡ out.old.items ++ numbered (coded name.now code.now) cell) }
+    ensures err { OnErr result (take (length out.old.items) out.new.items ≡ out.old.items) }
+{
+    push_coded(out, name, code)?;
+    push_numbered(out, "", u64::from(cell))
+}
+
 // Appends what fails.
 fn push_failure(
     schema: &Schema,
@@ -93,14 +97,13 @@ fn push_failure(
 {
     match verdict {
         Verdict::Yes => Ok(()),
-        Verdict::Sum { unit, cell } => {
-            push_coded(out, "no sum", spine.code(unit))?;
-            push_numbered(out, "", u64::from(cell))
-        }
-        Verdict::Impossible { unit, cell } => {
-            push_coded(out, "no impossible", spine.code(unit))?;
-            push_numbered(out, "", u64::from(cell))
-        }
+        Verdict::Sum { unit, cell } => push_cell("no sum", spine.code(unit), cell, out),
+        Verdict::Impossible { unit, cell } => push_cell(
+            "no impossible",
+            spine.code(unit),
+            cell,
+            out,
+        ),
         Verdict::Total { state } => push_coded(out, "no total", spine.code(state)),
         Verdict::Kind { unit, kind } => {
             push_coded(out, "no kind", spine.code(unit))?;
