@@ -65,27 +65,47 @@ const FIVE: Nation = Nation {
         Case {
             tables: "US,0,5\nS1,0,5\nB1,0,2\nB2,0,3\n",
             prices: "-,group,US,0,0\nUS,cell,-,0,0\nUS,group,S1,0,0\nS1,cell,-,0,0\nS1,group,B1,0,0\nS1,group,B2,0,0\n",
-            verdict: Verdict::Arc { fit: Some(1), arc: Group { unit: 2, group: 0 }, side: Up },
+            verdict: Verdict::Arc {
+                fit: Some(1),
+                arc: Group { unit: 2, group: 0 },
+                side: Up,
+            },
         },
         Case {
             tables: "US,0,5\nS1,0,5\nB1,0,2\nB2,0,3\n",
             prices: "-,group,US,0,0\nUS,cell,-,0,0\nUS,group,S1,0,0\nS1,cell,-,0,4\nS1,group,B1,0,4\nS1,group,B2,0,4\n",
-            verdict: Verdict::Arc { fit: Some(1), arc: Group { unit: 2, group: 0 }, side: Down },
+            verdict: Verdict::Arc {
+                fit: Some(1),
+                arc: Group { unit: 2, group: 0 },
+                side: Down,
+            },
         },
         Case {
             tables: "US,0,5\nS1,0,5\nB1,0,3\nB2,0,2\n",
             prices: "-,group,US,0,0\nUS,cell,-,0,0\nUS,group,S1,0,0\nS1,cell,-,0,2\nS1,group,B1,0,2\nS1,group,B2,0,2\n",
-            verdict: Verdict::Arc { fit: Some(1), arc: Group { unit: 2, group: 0 }, side: Down },
+            verdict: Verdict::Arc {
+                fit: Some(1),
+                arc: Group { unit: 2, group: 0 },
+                side: Down,
+            },
         },
         Case {
             tables: "US,0,5\nS1,0,5\nB1,0,2\nB2,0,3\n",
             prices: "-,group,US,0,0\nUS,cell,-,0,0\nUS,group,S1,0,0\nS1,cell,-,0,12\nS1,group,B1,0,2\nS1,group,B2,0,2\n",
-            verdict: Verdict::Arc { fit: Some(1), arc: Give { unit: 2, cell: 0 }, side: Down },
+            verdict: Verdict::Arc {
+                fit: Some(1),
+                arc: Give { unit: 2, cell: 0 },
+                side: Down,
+            },
         },
         Case {
             tables: "US,0,5\nS1,0,5\nB1,0,2\nB2,0,3\n",
             prices: "-,group,US,0,79228162514264337593543950336\nUS,cell,-,0,0\nUS,group,S1,0,0\nS1,cell,-,0,2\nS1,group,B1,0,2\nS1,group,B2,0,2\n",
-            verdict: Verdict::Arc { fit: None, arc: Give { unit: 0, cell: 0 }, side: Up },
+            verdict: Verdict::Arc {
+                fit: None,
+                arc: Give { unit: 0, cell: 0 },
+                side: Up,
+            },
         },
         Case {
             tables: "US,0,5\nS1,0,5\nB1,0,2\nB2,0,2\n",
@@ -128,7 +148,11 @@ const EQUALS: Nation = Nation {
         Case {
             tables: "US,0,5\nS1,0,5\nB1,0,4\nB2,0,1\n",
             prices: "-,group,US,0,0\nUS,cell,-,0,0\nUS,group,S1,0,0\nS1,cell,-,0,1\nS1,group,B1,0,1\nS1,group,B2,0,1\n",
-            verdict: Verdict::Arc { fit: Some(1), arc: Group { unit: 2, group: 0 }, side: Down },
+            verdict: Verdict::Arc {
+                fit: Some(1),
+                arc: Group { unit: 2, group: 0 },
+                side: Down,
+            },
         },
     ],
 };
@@ -150,7 +174,11 @@ const STATES: Nation = Nation {
         Case {
             tables: "US,0,5\nS1,0,2\nS2,0,3\nB1,0,2\nB2,0,3\n",
             prices: "-,group,US,0,0\nUS,cell,-,0,0\nUS,group,S1,0,0\nUS,group,S2,0,0\nS1,cell,-,0,2\nS1,group,B1,0,2\nS2,cell,-,0,0\nS2,group,B2,0,0\n",
-            verdict: Verdict::Arc { fit: Some(3), arc: Group { unit: 4, group: 0 }, side: Up },
+            verdict: Verdict::Arc {
+                fit: Some(3),
+                arc: Group { unit: 4, group: 0 },
+                side: Up,
+            },
         },
         Case {
             tables: "US,0,5\nS1,0,3\nS2,0,2\nB1,0,3\nB2,0,2\n",
@@ -168,13 +196,11 @@ const DORMITORY: Nation = Nation {
     totals: "state,total\nS1,5\n",
     measurements: "unit,query,class,value\n",
     root: "fit,part,unit,item,price\n-,state,S1,0,0\n-,kind,-,0,0\n-,kind,-,1,0\n",
-    cases: &[
-        Case {
-            tables: "US,0,3\nUS,1,2\nS1,0,3\nS1,1,2\nB1,0,2\nB1,1,1\nB2,0,1\nB2,1,1\n",
-            prices: "-,group,US,0,0\n-,group,US,1,0\n-,group,US,2,0\nUS,cell,-,0,0\nUS,cell,-,1,0\nUS,group,S1,0,0\nUS,group,S1,1,0\nUS,group,S1,2,0\nS1,cell,-,0,0\nS1,cell,-,1,0\nS1,group,B1,0,0\nS1,group,B1,1,0\nS1,group,B1,2,0\nS1,group,B2,0,0\nS1,group,B2,1,0\nS1,group,B2,2,0\n",
-            verdict: Verdict::Kind { unit: 2, kind: 1 },
-        },
-    ],
+    cases: &[Case {
+        tables: "US,0,3\nUS,1,2\nS1,0,3\nS1,1,2\nB1,0,2\nB1,1,1\nB2,0,1\nB2,1,1\n",
+        prices: "-,group,US,0,0\n-,group,US,1,0\n-,group,US,2,0\nUS,cell,-,0,0\nUS,cell,-,1,0\nUS,group,S1,0,0\nUS,group,S1,1,0\nUS,group,S1,2,0\nS1,cell,-,0,0\nS1,cell,-,1,0\nS1,group,B1,0,0\nS1,group,B1,1,0\nS1,group,B1,2,0\nS1,group,B2,0,0\nS1,group,B2,1,0\nS1,group,B2,2,0\n",
+        verdict: Verdict::Kind { unit: 2, kind: 1 },
+    }],
 };
 
 // Cell 0, of minors, isn't possible.
@@ -250,7 +276,17 @@ fn has_verdict(
     let prices = joined(alloc, &[nation.root, case.prices])?;
     assert!(rt; tables.len() < 1000 && prices.len() < 1000);
     let tables = read_tables(alloc, schema, spine, &tables)?;
-    judged(rt, alloc, schema, spine, inv, m, &tables, &prices, case.verdict)
+    judged(
+        rt,
+        alloc,
+        schema,
+        spine,
+        inv,
+        m,
+        &tables,
+        &prices,
+        case.verdict,
+    )
 }
 
 fn has_verdicts(
