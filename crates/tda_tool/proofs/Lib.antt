@@ -1,4 +1,4 @@
-pub mod Reads
+pub mod CommandFiles
 pub mod Files
 pub mod Begun
 pub mod Outputs

@@ -1,6 +1,6 @@
 use Rattle.std.proofs.Common.{map, string_bytes}
 use Rattle.tda_inputs.specs.Reading.{inputs_in}
-use Rattle.tda_tool.proofs.Reads.{fit_reads}
+use Rattle.tda_tool.proofs.CommandFiles.{fit_reads}
 use Rattle.tda_tool.proofs.Prepared.{fit_done, fit_stopped}
 use Rattle.tda_tool.proofs.prepare.fit.Goals as goal
 

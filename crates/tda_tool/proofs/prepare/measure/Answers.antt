@@ -1,6 +1,6 @@
 use Rattle.std.proofs.Common.{map, string_bytes}
 use Rattle.tda_command.specs.declared.words.Command.TheVariants.{Measure}
-use Rattle.tda_tool.proofs.Reads.{survey_reads}
+use Rattle.tda_tool.proofs.CommandFiles.{survey_reads}
 use Rattle.tda_tool.proofs.Surveyed.{can_be_measured}
 use Rattle.tda_tool.proofs.Prepared.{measure_done, draw_stopped}
 use Rattle.tda_tool.proofs.prepare.measure.Goals as goal
