@@ -326,22 +326,32 @@ wrote_run words s a old new v has made left = record {
       (subst (λ files. Leaves files old new) (files_are words _ _ _ a made.tells.outputs made.tells.report) left);
 }
 
+-- the words are one command at most
+fit_no_measure : (o : Option Command) → o ≡ Some command.Fit → o ≡ Some command.Measure → ⊥
+fit_no_measure o a b = cc (a, b)
+
+fit_no_run : (o : Option Command) → o ≡ Some command.Fit → o ≡ Some command.Run → ⊥
+fit_no_run o a b = cc (a, b)
+
+measure_no_run : (o : Option Command) → o ≡ Some command.Measure → o ≡ Some command.Run → ⊥
+measure_no_run o a b = cc (a, b)
+
 done_fit : (c : Command) (words : List (List ℕ)) (s : Shelf) (a : Answer) (old new : Option Tray) → IsDone c words (Some s) a → Leaves (files_of words a) old new → command_of words ≡ Some command.Fit
     → FitWrote words s.holds old new
 done_fit command.Fit words s a old new done left is = wrote_tables words s a old new done.0 done.1 done.2 left
-done_fit command.Measure words s a old new done left is = cc (is, done.1.is)
-done_fit command.Run words s a old new done left is = cc (is, done.1.is)
+done_fit command.Measure words s a old new done left is = absurd (fit_no_measure (command_of words) is done.1.is)
+done_fit command.Run words s a old new done left is = absurd (fit_no_run (command_of words) is done.1.is)
 
 done_measure : (c : Command) (words : List (List ℕ)) (s : Shelf) (a : Answer) (old new : Option Tray) → IsDone c words (Some s) a → Leaves (files_of words a) old new → command_of words ≡ Some command.Measure
     → MeasureWrote words s.holds old new
-done_measure command.Fit words s a old new done left is = cc (is, done.1.0)
+done_measure command.Fit words s a old new done left is = absurd (fit_no_measure (command_of words) done.1.0 is)
 done_measure command.Measure words s a old new done left is = wrote_measured words s a old new done.0 done.1 done.2 left
-done_measure command.Run words s a old new done left is = cc (is, done.1.is)
+done_measure command.Run words s a old new done left is = absurd (measure_no_run (command_of words) is done.1.is)
 
 done_run : (c : Command) (words : List (List ℕ)) (s : Shelf) (a : Answer) (old new : Option Tray) → IsDone c words (Some s) a → Leaves (files_of words a) old new → command_of words ≡ Some command.Run
     → RunWrote words s.holds old new
-done_run command.Fit words s a old new done left is = cc (is, done.1.0)
-done_run command.Measure words s a old new done left is = cc (is, done.1.is)
+done_run command.Fit words s a old new done left is = absurd (fit_no_run (command_of words) done.1.0 is)
+done_run command.Measure words s a old new done left is = absurd (measure_no_run (command_of words) done.1.is is)
 done_run command.Run words s a old new done left is = wrote_run words s a old new done.0 done.1 done.2 left
 
 fit_wrote_by : (k : Cause) (words : List (List ℕ)) (s : Shelf) (a : Answer) (old new : Option Tray) → SuitsBy k words (Some s) a → Leaves (files_of words a) old new → status_by k ≡ 0

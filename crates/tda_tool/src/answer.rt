@@ -46,6 +46,18 @@ pub(crate) struct Output {
     pub(crate) text: Vec<u8>,
 }
 
+impl Output {
+    ghost use Rattle.std.specs.Prelude.{◌≡◌};
+
+    /// The output of this name, with this text.
+    pub(crate) fn new(name: &'static str, text: Vec<u8>) -> Output
+        ensures name { result.name.now ≡ name.entry.now }
+        ensures text { result.text ≡ text }
+    {
+        Output { name, text }
+    }
+}
+
 /// What the program answers, where memory suffices and all can be written: the outputs in their order, and the report.
 #[derive(Debug, Drop)]
 pub(crate) struct Answer {

@@ -117,14 +117,8 @@ fn done(alloc: Global, counted: Counted, drawn: Drawn) -> Result<Answer, NoMemor
         &inputs.measurements,
     )?;
     let report = line(alloc, &inputs.schema, &inputs.spine, drawn.taken, texts.deviation)?;
-    outputs.push(Output {
-        name: "tables",
-        text: texts.tables,
-    })?;
-    outputs.push(Output {
-        name: "prices",
-        text: texts.prices,
-    })?;
+    outputs.push(Output::new("tables", texts.tables))?;
+    outputs.push(Output::new("prices", texts.prices))?;
     Ok(Answer {
         cause: Cause::Done,
         outputs,
