@@ -369,7 +369,7 @@ fn each_failing_call_has_its_status(rt: HostRuntime) -> Result<(), Fail> {
             "0|t=unit,cell,count\nUS,0,5\nS1,0,5\nB1,0,2\nB2,0,3\n|p|-=ok fit fits=3 deviation=2\n",
         ),
         (0, 1, "5"),
-        (0, 2, "5|t=unit,cell,count\nUS,0,"),
+        (0, 2, "5|t=unit,cell,count\nUS,0,5"),
         (
             0,
             4,
