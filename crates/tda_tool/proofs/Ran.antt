@@ -167,7 +167,6 @@ done_due command.Measure words s a done = record {
   status_is = refl;
   alone = λ some. absurd (some refl);
 }
-
 done_due command.Run words s a done =
     let v = done.0 in
     let made = done.2 in

@@ -33,8 +33,8 @@ returns-in-Ok c =
     let common : common_of s ≤ denominator_limit = omega (arith, c.common.ensures.value, c.common.ensures.limit) in
     let few : (level : ℕ) → level < length s.levels → HasFewQueries s level = λ level low. record { few = (grouped level low).few; over_all = (grouped level low).over_all } in
     let tells : YesTells Square i = yes_tells Square i joined.tree joined.kinds joined.most (always s sp inv joined).few c.requires.limits.depth
-        (inputs_limited s sp inv m c.levels.ensures.queries common few c.requires.measured c.requires.limits)
-        (λ level low. ((grouped level low).tree, (grouped level low).is_tree, (grouped level low).is_tree.listed)) in
+    (inputs_limited s sp inv m c.levels.ensures.queries common few c.requires.measured c.requires.limits)
+    (λ level low. ((grouped level low).tree, (grouped level low).is_tree, (grouped level low).is_tree.listed)) in
     let all = texts_released i c.units.ensures.sound e.0 (subst (λ curve. AreFirstFits curve i e.0) c.new-loss.ensures.curve e.2) e.3 tells c.in_ok-texts.texts c.descend-fitted.new.keep.0.now c.in_ok-texts.ensures t.has in
     record {
       tables = all.tables;
