@@ -64,19 +64,6 @@ seeded_without_words() {
   echo "${report% words=*}"
 }
 
-# run MEASUREMENTS TABLES: over the small example with the words of a seed, with the other outputs in the folder
-run() {
-  "$tda" run --schema "$data/schema.toml" --spine "$data/spine.csv" --facilities "$data/facilities.csv" \
-    --records "$data/records.csv" --seed "$data/seed" --place 0 --budget 1000000 --measurements "$1" \
-    --totals "$folder/run_totals.csv" --ledger "$folder/run_ledger.csv" --tables "$2" --prices "$folder/run_prices.csv"
-}
-
-# The status of a run, and its report without what depends on the words.
-run_without_words() {
-  report=$(run "$@") || return
-  echo "${report% words=*}"
-}
-
 fit_to_full_device() {
   fit "$data/schema.toml" "$data/spine.csv" "$data/facilities.csv" "$data/totals.csv" "$folder/other.csv" >/dev/full
 }
@@ -108,12 +95,6 @@ try "a folder in place of an output" 5 - fit "$data/schema.toml" "$data/spine.cs
 
 try "totals that don't suffice for the facilities" 3 "refused totals Short North 1 3" fit "$data/schema.toml" "$data/spine.csv" "$data/facilities.csv" "$folder/short.csv" "$folder/new.csv"
 try "the measured totals make a release" 0 "ok fit fits=11" fit_without_deviation "$data/schema.toml" "$data/spine.csv" "$data/facilities.csv" "$folder/totals.csv" "$folder/measured_tables.csv"
-try "a run by the same seed" 0 "ok run places=44 spent=1/1" run_without_words "$folder/run_measurements.csv" "$folder/run_tables.csv"
-try "measures the same" 0 - cmp "$folder/measurements.csv" "$folder/run_measurements.csv"
-try "with the same totals" 0 - cmp "$folder/totals.csv" "$folder/run_totals.csv"
-try "and fits the same tables" 0 - cmp "$folder/measured_tables.csv" "$folder/run_tables.csv"
-try "a run whose tables can't be written" 5 - run "$folder/new.csv" "$folder/none/tables.csv"
-rm -f "$folder/new.csv"
 try "the same words again" 0 "ok measure places=44 spent=1/1" seeded_without_words 0 "$folder/again.csv"
 try "give the same noise" 0 - cmp "$folder/measurements.csv" "$folder/again.csv"
 try "other words" 0 "ok measure places=44 spent=1/1" seeded_without_words 1000000 "$folder/others.csv"

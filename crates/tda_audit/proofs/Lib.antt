@@ -24,5 +24,3 @@ pub mod Rises
 pub mod ChildArcs
 pub mod PriceParts
 pub mod Deviations
-pub mod FirstClass
-pub mod TermStep

@@ -35,7 +35,7 @@ use Rattle.tda_fitnet.proofs.Ranges.{place_below, length_all, at_source, at_shar
 use Rattle.tda_fitnet.proofs.Places.{each_place, arc_count_is}
 use Rattle.tda_fitnet.proofs.GroupSums.{next_less, smallest_less}
 use Rattle.tda_fitnet.proofs.GroupBounds.{placed, bounds_within}
-use Rattle.tda_audit.proofs.FirstClass.{terms_by_first}
+use Rattle.tda_fitnet.proofs.FirstClass.{terms_by_first}
 use Rattle.tda_fitnet.proofs.SplitFit.{cell_in, cell_few}
 use Rattle.tda_fitnet.proofs.NationShares.{each_state}
 use Rattle.tda_audit.proofs.Settled.{named_at}

@@ -22,7 +22,7 @@ use Rattle.tda_groups.specs.Order.{group_at}
 use Rattle.tda_fitnet.specs.Arcs.{NamedArc, network_of, root_network, split_layout, split_network, source_arc, share_arc, give_arc, group_arc, cell_at, child_at}
 use Rattle.tda_fitnet.specs.Fits.{curve_of, AreShares, root_flow, split_flow, group_sum}
 use Rattle.tda_descent.specs.declared.fit.Fit.{Fit}
-use Rattle.tda_descent.specs.Fits.{units_of, fit_groups, IsLeastAt, IsCertifiedAt, IsFitOf}
+use Rattle.tda_descent.specs.Fits.{units_of, level_below, IsLeastAt, IsCertifiedAt, IsFitOf}
 use Rattle.tda_descent.specs.Made.{IsSplitOf}
 use Rattle.tda_descent.proofs.Family.{AreSame, HaveSame, map_same, flat_same, counts_same, least_same, deviation_same}
 
@@ -87,16 +87,15 @@ pub split_is_fit : (c : Curve) (i : Inputs) (p : ℕ) (x : Table) (family : Tabl
     → HaveSame i.schema x (y p) → AreSame (children_of i.spine p) family y → IsFitOf c i y fit
 split_is_fit c i p x family fit y h same_x same_family =
     let cs = children_of i.spine p in
-    let groups = fit_groups i (Some p) in
     let units_are : units_of i.spine fit.parent ≡ cs = ap (units_of i.spine) h.parent in
     record {
       units = h.units ∙ sym units_are;
       counts = h.counts ∙ counts_same i.schema cs family y same_family ∙ ap (λ us. family_counts i.schema us y) (sym units_are);
       few = h.few;
       least = subst (IsLeastAt c i y) (sym h.parent) (least_same (CanBe i) i.schema cs (deviation_at (curve_of c) i) x (y p) family y same_x same_family h.least);
-      certified = subst (λ o. IsCertifiedAt c i (fit_groups i o) y o fit.prices.items) (sym h.parent)
-          (subst (λ n. IsCertified (value_of c) n (split_flow i groups p (y p) y) (pos 0 ∷ fit.prices.items)) (network_same i groups p x (y p) same_x)
-          (subst (λ flow. IsCertified (value_of c) (split_network i groups p x) flow (pos 0 ∷ fit.prices.items)) (flow_same i groups p x (y p) family y same_x same_family) h.certified));
+      certified = subst (λ o. (t : Tree) → IsTreeOf i.schema (level_at i.schema (level_below i.spine o)) t → IsCertifiedAt c i t.groups y o fit.prices.items) (sym h.parent)
+          (λ t is. subst (λ n. IsCertified (value_of c) n (split_flow i t.groups p (y p) y) (pos 0 ∷ fit.prices.items)) (network_same i t.groups p x (y p) same_x)
+          (subst (λ flow. IsCertified (value_of c) (split_network i t.groups p x) flow (pos 0 ∷ fit.prices.items)) (flow_same i t.groups p x (y p) family y same_x same_family) (h.certified t is)));
       prices = h.prices ∙ ap (λ o. (fit_size i.schema i.spine o).nodes) (sym h.parent);
       near = h.near;
       small = h.small;
@@ -115,7 +114,7 @@ fit_is_split c i p fit y e h =
       counts = h.counts ∙ ap (λ us. family_counts i.schema us y) units_are;
       few = h.few;
       least = subst (IsLeastAt c i y) e h.least;
-      certified = subst (λ o. IsCertifiedAt c i (fit_groups i o) y o fit.prices.items) e h.certified;
+      certified = subst (λ o. (t : Tree) → IsTreeOf i.schema (level_at i.schema (level_below i.spine o)) t → IsCertifiedAt c i t.groups y o fit.prices.items) e h.certified;
       prices = h.prices ∙ ap (λ o. (fit_size i.schema i.spine o).nodes) e;
       near = h.near;
       small = h.small;
@@ -126,16 +125,15 @@ fit_is_split c i p fit y e h =
 pub root_is_fit : (c : Curve) (i : Inputs) (fit : Fit) (x y : Tables) → fit.parent ≡ None → x (nation_of i.spine) ≡ y (nation_of i.spine) → IsFitOf c i x fit → IsFitOf c i y fit
 root_is_fit c i fit x y e same h =
     let nation = nation_of i.spine in
-    let groups = fit_groups i None in
     let units_are : units_of i.spine fit.parent ≡ nation ∷ [] = ap (units_of i.spine) e in
     record {
       units = h.units;
       counts = h.counts ∙ counts_same i.schema (units_of i.spine fit.parent) x y all_same;
       few = h.few;
       least = subst (IsLeastAt c i y) (sym e) (subst (LeastRoot (CanBe i) (deviation_at (curve_of c) i) nation) same (subst (IsLeastAt c i x) e h.least));
-      certified = subst (λ o. IsCertifiedAt c i (fit_groups i o) y o fit.prices.items) (sym e)
-          (subst (λ table. (shares : Tables) × AreShares i table shares × IsCertified (value_of c) (root_network i groups) (root_flow i groups shares table) (pos 0 ∷ fit.prices.items)) same
-          (subst (λ o. IsCertifiedAt c i (fit_groups i o) x o fit.prices.items) e h.certified));
+      certified = subst (λ o. (t : Tree) → IsTreeOf i.schema (level_at i.schema (level_below i.spine o)) t → IsCertifiedAt c i t.groups y o fit.prices.items) (sym e)
+          (λ t is. subst (λ table. (shares : Tables) × AreShares i table shares × IsCertified (value_of c) (root_network i t.groups) (root_flow i t.groups shares table) (pos 0 ∷ fit.prices.items)) same
+          (subst (λ o. (t : Tree) → IsTreeOf i.schema (level_at i.schema (level_below i.spine o)) t → IsCertifiedAt c i t.groups x o fit.prices.items) e h.certified t is));
       prices = h.prices;
       near = h.near;
       small = h.small;

@@ -37,9 +37,10 @@ use Rattle.tda_descent.specs.declared.root.RootFit.{RootFit}
 use Rattle.tda_descent.specs.Solved.{IsSolved}
 use Rattle.tda_io.specs.declared.outside.NoMemory.{NoMemory}
 use Rattle.std.specs.Prelude.{Result, Ok, Err, IfOk}
-use Rattle.tda_descent.specs.Fits.{units_of, fit_groups, IsLeastAt, IsCertifiedAt}
+use Rattle.tda_descent.specs.Fits.{units_of, level_below, IsLeastAt, IsCertifiedAt}
 use Rattle.tda_descent.specs.Made.{IsMadeOf, IsRootOf, IsSplitOf}
 use Rattle.tda_fitnet.proofs.FlowCounts.{root_counts, root_shares, split_counts}
+use Rattle.tda_descent.proofs.SameGroups.{same_groups}
 use Rattle.tda_descent.proofs.Values.{flow_few}
 
 -- a flow for each arc
@@ -100,7 +101,8 @@ module _ (c : Curve) (i : Inputs) (tree : IsTree i.spine (nation_of i.spine)) (h
           counts = counts ∙ split_counts i t.groups p x solved.0 flow solved.1.flow_is solved.1.least.is_family;
           few = subst (All (λ n. n ≤ persons_limit)) (sym counts) (counts_few (split_fit i t.groups p x) flow (flows_few (split_network i t.groups p x) flow sound circulates));
           least = solved.1.least;
-          certified = subst (λ groups. IsCertified (value_of c) (split_network i groups p x) (split_flow i groups p x solved.0) prices) is.listed solved.1.certified;
+          certified = λ u also. subst (λ groups. IsCertified (value_of c) (split_network i groups p x) (split_flow i groups p x solved.0) prices)
+              (same_groups i.schema (level_at i.schema (level_of i.spine p + 1)) t u is also) solved.1.certified;
           prices = made.prices ∙ split_nodes i p t deep is;
           near = made.near;
           small = omega (arith, made.small, arcs, limit);
@@ -130,11 +132,13 @@ module _ (c : Curve) (i : Inputs) (tree : IsTree i.spine (nation_of i.spine)) (h
             counts = counts_are ∙ ap (λ us. family_counts i.schema us x) (sym here);
             few = subst (All (λ n. n ≤ persons_limit)) (sym counts) (counts_few (root_fit i t.groups) flow (flows_few (root_network i t.groups) flow sound circulates));
             least = subst (IsLeastAt c i x) (sym parent) solved.2.least;
-            certified = subst (λ o. IsCertifiedAt c i (fit_groups i o) x o fit.prices.items) (sym parent) (
-              solved.1,
-              solved.2.shares_are,
-              subst (λ groups. IsCertified (value_of c) (root_network i groups) (root_flow i groups solved.1 solved.0) prices) is.listed solved.2.certified,
-            );
+            certified = subst (λ o. (u : Tree) → IsTreeOf i.schema (level_at i.schema (level_below i.spine o)) u → IsCertifiedAt c i u.groups x o fit.prices.items) (sym parent)
+                (λ u also. (
+                  solved.1,
+                  solved.2.shares_are,
+                  subst (λ groups. IsCertified (value_of c) (root_network i groups) (root_flow i groups solved.1 solved.0) prices)
+                      (same_groups i.schema (level_at i.schema 0) t u is also) solved.2.certified,
+                ));
             prices = made.prices ∙ root_nodes i t deep is ∙ ap (λ o. (fit_size i.schema i.spine o).nodes) (sym parent);
             near = made.near;
             small = omega (arith, made.small, arcs, belong.root_arcs);

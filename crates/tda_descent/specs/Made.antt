@@ -18,7 +18,7 @@ use Rattle.tda_groups.specs.Tree.{Tree, IsTreeOf}
 use Rattle.tda_fitnet.specs.Arcs.{split_network}
 use Rattle.tda_fitnet.specs.Fits.{curve_of, AreListedShares, split_flow}
 use Rattle.tda_descent.specs.declared.fit.Fit.{Fit}
-use Rattle.tda_descent.specs.Fits.{IsFitOf, fit_groups}
+use Rattle.tda_descent.specs.Fits.{IsFitOf}
 
 abbrev pub HasChildren : Spine → ℕ → Type 0
 HasChildren sp u = 0 < length (children_of sp u)
@@ -45,7 +45,8 @@ pub record IsSplitOf (c : Curve) (i : Inputs) (p : ℕ) (x : Table) (family : Ta
   pub counts : fit.counts.items ≡ family_counts i.schema (children_of i.spine p) family
   pub few : All (λ n. n ≤ persons_limit) fit.counts.items
   pub least : LeastSplit (CanBe i) (deviation_at (curve_of c) i) i.schema (children_of i.spine p) x family
-  pub certified : IsCertified (value_of c) (split_network i (fit_groups i (Some p)) p x) (split_flow i (fit_groups i (Some p)) p x family) (pos 0 ∷ fit.prices.items)
+  pub certified : (t : Tree) → IsTreeOf i.schema (level_at i.schema (level_of i.spine p + 1)) t
+      → IsCertified (value_of c) (split_network i t.groups p x) (split_flow i t.groups p x family) (pos 0 ∷ fit.prices.items)
   pub prices : length fit.prices.items + 1 ≡ (fit_size i.schema i.spine (Some p)).nodes
   pub near : All (IsWithin (2 ^ 96)) fit.prices.items
   pub small : fit.deviation < 2 ^ 110

@@ -1,6 +1,5 @@
 // The trees of groups of all levels.
-ghost use Rattle.std.specs.Prelude.{IfOk, OnOk};
-ghost use Rattle.tda_descent.specs.Levels.{AreGrouped};
+ghost use Rattle.std.specs.Prelude.{IfOk};
 ghost use Rattle.tda_descent.specs.Made.{AreTrees};
 
 use std::alloc::Global;
@@ -10,13 +9,10 @@ use tda_schema::Schema;
 
 // The tree of each level, in order.
 pub(crate) fn level_trees(alloc: Global, schema: &Schema) -> Result<Vec<GroupTree>, NoMemory>
-    ensures trees { IfOk result (λ trees. AreTrees schema.now trees.items) }
-    ensures grouped { OnOk result (AreGrouped schema.now) }
+    ensures { IfOk result (λ trees. AreTrees schema.now trees.items) }
 {
     let mut trees = Vec::new(alloc);
     for level in 0..schema.levels() {
-        // A level has few queries, each over all possible cells.
-        let _ = schema.queries(level);
         trees.push(tree(alloc, schema, level)?)?;
     }
     Ok(trees)

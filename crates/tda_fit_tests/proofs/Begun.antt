@@ -1,5 +1,5 @@
 -- What is known of the counts and shares that are read off a circulation of the nation's fit.
-use Rattle.std.proofs.Common.{◌≡◌, ℕ, ◌<◌, ◌==◌, length-append, ℤ, List, [], ◌++◌, length, map, slice_index, sym, ap, ◌∙◌, subst, arith}
+use Rattle.std.proofs.Common.{◌≡◌, ℕ, ◌+◌, ◌<◌, ◌≤◌, ◌==◌, length-append, ℤ, List, [], ◌∷◌, ◌++◌, length, map, slice_index, sym, ap, ◌∙◌, subst, arith}
 use Rattle.std.specs.List.{range_with_len}
 use Rattle.std.proofs.lemmas.List.{get_or_append_left, length-map}
 use Rattle.std.proofs.lemmas.List.FromFn.{length-map-range_with_len, get_or-map-range_with_len}
@@ -7,6 +7,9 @@ use Rattle.tda_model.specs.Schema.{Schema}
 use Rattle.tda_model.specs.Cells.{cell_count, kind_of, all_cells}
 use Rattle.tda_model.specs.Spine.{Spine, nation_of}
 use Rattle.tda_model.specs.Tables.{Table, Published, kind_sum, persons_in, Attainable}
+use Rattle.tda_model.specs.Bounds.{persons_limit}
+use Rattle.tda_model.specs.First.{family_counts}
+use Rattle.tda_model.specs.Release.{Inputs}
 use Rattle.tda_model.proofs.Sums.{sum_same, each_filter, each_range}
 use Rattle.tda_invar.specs.Known.{JoinedLists, IsJoined, known_of}
 use Rattle.tda_invar.proofs.Existence.{always}
@@ -23,7 +26,7 @@ abbrev pub HaveSame : Schema → Table → Table → Type 0
 HaveSame s x y = (j : ℕ) → j < cell_count s → y j ≡ x j
 
 same_can : (s : Schema) (sp : Spine) (known : Published) (u : ℕ) (x y : Table) → HaveSame s x y → Attainable s sp known u x → Attainable s sp known u y
-same_can s sp known u x y same (ts, h) = (ts, record { fits = h.fits; adds = λ j l. same j l ∙ h.adds j l; totals = h.totals })
+same_can s sp known u x y same (ts, h) = (ts, record { fits = h.fits; adds = λ j l. same j l ∙ h.adds j l; totals = h.totals; })
 
 same_kind : (s : Schema) (x y : Table) (k : ℕ) → HaveSame s x y → kind_sum s k y ≡ kind_sum s k x
 same_kind s x y k same =
@@ -35,7 +38,7 @@ same_persons s x y same = sum_same y x (all_cells s) (each_range _ 0 (cell_count
 same_shares : (s : Schema) (sp : Spine) (known : Published) (x y : Table) (list : List ℕ) → HaveSame s x y → AreListedShares s sp known x list → AreListedShares s sp known y list
 same_shares s sp known x y list same h = record {
   shares = h.shares;
-  are = record { enough = h.are.enough; not_more = h.are.not_more; totals = h.are.totals; kinds = λ k l. h.are.kinds k l ∙ sym (same_kind s x y k same) };
+  are = record { enough = h.are.enough; not_more = h.are.not_more; totals = h.are.totals; kinds = λ k l. h.are.kinds k l ∙ sym (same_kind s x y k same); };
   size = h.size;
   at = h.at;
 }

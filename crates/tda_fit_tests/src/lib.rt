@@ -2,8 +2,6 @@
 #![tactic(auto)]
 
 #[cfg(test)]
-mod nations;
-#[cfg(test)]
 mod nets;
 #[cfg(test)]
 mod starts;

@@ -1,4 +1,4 @@
-// Where the fits of nations begin: the nation's table with the states' shares, and the split of that table among the states, with its net.
+// Where the fits of the two nations begin: the nation's table with the states' shares, and the split of that table among the states.
 ghost use Rattle.std.specs.Prelude.{◌<◌, ◌≤◌, ◌^◌, IfOk, length};
 ghost use Rattle.tda_schema.specs.Stated.{level_at};
 ghost use Rattle.tda_spine.specs.Judged.{IsWithinLimits};
@@ -7,8 +7,7 @@ ghost use Rattle.tda_places.specs.Measurements.{AreMeasurementsOf};
 ghost use Rattle.tda_groups.specs.Tree.{IsTreeOf};
 ghost use Rattle.tda_fit_tests.specs.Begun.{IsBegun};
 
-use crate::nations::{DORMITORY, HOUSES, Nation, PRISON, TWINS, Way};
-use crate::nets::has_ways;
+use crate::nets::{DORMITORY, Nation, PRISON};
 use std::alloc::Global;
 use std::process::Abort;
 use std::test::Fail;
@@ -46,9 +45,8 @@ fn root_begun(
     Ok((counts, shares))
 }
 
-// The counts of the states from which the split of the nation begins. The net of the split has just these arcs.
+// The counts of the states from which the split of the nation begins.
 fn split_begun(
-    rt: &impl Abort,
     alloc: Global,
     schema: &Schema,
     tree: &GroupTree,
@@ -57,7 +55,6 @@ fn split_begun(
     m: &Measurements,
     counts: &[u64],
     shares: &[u64],
-    ways: &[Way],
 ) -> Result<Vec<u64>, NoMemory>
     requires belong { IsWithinLimits schema.now spine.now }
     requires joined { IsJoined schema.now spine.now inv.now }
@@ -67,7 +64,6 @@ fn split_begun(
 {
     let nation = spine.nation();
     let fit = split_net(alloc, schema, tree, spine, inv, m, nation, counts)?;
-    has_ways(rt, &fit, ways);
     let mut flow = vec![in alloc; 0; fit.net().arcs()]?;
     split_start(&fit, schema, spine, inv, nation, counts, shares, &mut flow);
     let states = spine.children(nation).len();
@@ -84,7 +80,7 @@ fn has_split(
     inv: &Invariants,
     m: &Measurements,
     begun: &(Vec<u64>, Vec<u64>),
-    due: &Nation,
+    due: &[u64],
 ) -> Result<(), Fail>
     requires belong { IsWithinLimits schema.now spine.now }
     requires joined { IsJoined schema.now spine.now inv.now }
@@ -93,10 +89,8 @@ fn has_split(
 {
     assert!(rt; 1 < schema.levels());
     let tree = tree(alloc, schema, 1)?;
-    let counts = split_begun(
-        rt, alloc, schema, &tree, spine, inv, m, &begun.0, &begun.1, due.split,
-    )?;
-    assert!(rt; *counts == *due.split_counts);
+    let counts = split_begun(alloc, schema, &tree, spine, inv, m, &begun.0, &begun.1)?;
+    assert!(rt; *counts == *due);
     Ok(())
 }
 
@@ -107,7 +101,7 @@ fn has_start(
     spine: &Spine,
     inv: &Invariants,
     m: &Measurements,
-    due: &Nation,
+    due: &Start,
 ) -> Result<(), Fail>
     requires belong { IsWithinLimits schema.now spine.now }
     requires joined { IsJoined schema.now spine.now inv.now }
@@ -118,16 +112,17 @@ fn has_start(
     let begun = root_begun(alloc, schema, &tree, spine, inv, m)?;
     assert!(rt; *begun.0 == *due.counts);
     assert!(rt; *begun.1 == *due.shares);
-    has_split(rt, alloc, schema, spine, inv, m, &begun, due)
+    has_split(rt, alloc, schema, spine, inv, m, &begun, due.split)
 }
 
-fn of_spine(
-    rt: &impl Abort,
-    alloc: Global,
-    schema: &Schema,
-    spine: &Spine,
-    nation: &Nation,
-) -> Result<(), Fail>
+// The counts of the nation's table and the states' shares, and the states' counts.
+struct Start {
+    counts: &'static [u64],
+    shares: &'static [u64],
+    split: &'static [u64],
+}
+
+fn of_spine(rt: &impl Abort, alloc: Global, schema: &Schema, spine: &Spine, nation: &Nation, due: &Start) -> Result<(), Fail>
     requires { IsWithinLimits schema.now spine.now }
 {
     assert!(rt;
@@ -139,32 +134,22 @@ fn of_spine(
     let totals = read_totals(alloc, spine, nation.totals.as_bytes())?;
     let inv = join(alloc, schema, spine, facilities, totals)?;
     let m = read_measurements(alloc, schema, spine, nation.measurements.as_bytes())?;
-    has_start(rt, alloc, schema, spine, &inv, &m, nation)
+    has_start(rt, alloc, schema, spine, &inv, &m, due)
 }
 
-fn of_nation(rt: &impl Abort, alloc: Global, nation: &Nation) -> Result<(), Fail> {
+fn of_nation(rt: &impl Abort, alloc: Global, nation: &Nation, due: &Start) -> Result<(), Fail> {
     assert!(rt; nation.schema.len() < 1000 && nation.spine.len() < 1000);
     let schema = read_schema(alloc, nation.schema.as_bytes())?;
     let spine = read_spine(alloc, &schema, nation.spine.as_bytes())?;
-    of_spine(rt, alloc, &schema, &spine, nation)
-}
-
-#[test]
-fn start_of_a_nation_of_houses(rt: HostRuntime) -> Result<(), Fail> {
-    of_nation(&rt, rt.alloc(), &HOUSES)
-}
-
-#[test]
-fn start_of_queries_with_one_class(rt: HostRuntime) -> Result<(), Fail> {
-    of_nation(&rt, rt.alloc(), &TWINS)
+    of_spine(rt, alloc, &schema, &spine, nation, due)
 }
 
 #[test]
 fn start_of_a_nation_with_a_prison(rt: HostRuntime) -> Result<(), Fail> {
-    of_nation(&rt, rt.alloc(), &PRISON)
+    of_nation(&rt, rt.alloc(), &PRISON, &Start { counts: &[99, 1], shares: &[49, 1, 50, 0], split: &[49, 1, 50, 0] })
 }
 
 #[test]
 fn start_of_a_nation_with_a_dormitory(rt: HostRuntime) -> Result<(), Fail> {
-    of_nation(&rt, rt.alloc(), &DORMITORY)
+    of_nation(&rt, rt.alloc(), &DORMITORY, &Start { counts: &[3, 2], shares: &[3, 2], split: &[3, 2] })
 }

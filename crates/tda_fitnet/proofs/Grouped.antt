@@ -11,7 +11,7 @@ use Rattle.tda_fitnet.specs.declared.layout.Layout.{Layout}
 use Rattle.tda_fitnet.specs.declared.name.ArcName.{ArcName}
 use Rattle.tda_fitnet.specs.Layout.{layout_list, arc_number, source_node, kind_node, share_place, give_place, group_place, group_node}
 use Rattle.tda_fitnet.specs.Arcs.{NamedArc, network_of, plain_arc, source_arc}
-use Rattle.tda_fitnet.specs.GroupFlows.{first_give, first_group, first_node, end_of, arc_after, inflow, IsGrouped}
+use Rattle.tda_fitnet.specs.GroupFlows.{first_give, first_group, first_node, end_of, arc_after, coming, IsGrouped}
 use Rattle.tda_fitnet.proofs.Ranges.{below, place_below}
 use Rattle.tda_fitnet.proofs.Places.{each_place, count_is, source_is, share_is, give_is, group_is, into_is, pos_below}
 use Rattle.tda_fitnet.proofs.Nodes.{in_group}
@@ -53,7 +53,7 @@ module _ (l : Layout) (some_sources : l.states ≤ l.sources) (from : ℕ → �
   abbrev at_group : ℕ → ℕ → ℕ
   at_group u g = slice_index flow (group_place l u g)
 
-  into_coming : (v : ℕ) → into net flow v ≡ pos (inflow net flow v)
+  into_coming : (v : ℕ) → into net flow v ≡ pos (coming net flow v)
   unfolding into
   into_coming v =
       let f : ℕ → ℕ = λ k. cond (end_of net k == v) (slice_index flow k) 0 in
@@ -61,7 +61,7 @@ module _ (l : Layout) (some_sources : l.states ≤ l.sources) (from : ℕ → �
 
   -- what comes to a group
   pub comes_to_group : (u g : ℕ) → u < l.units → g < l.groups
-      → inflow net flow (group_node l u g)
+      → coming net flow (group_node l u g)
       ≡ below l.cells (λ r. cond (eqb (small r) g) (at_give u r) 0) + below l.groups (λ h. cond (nat_lt 0 h && eqb (next h) g) (at_group u h) 0)
   comes_to_group u g lu lg =
       pos_same _ _ (sym (into_coming (group_node l u g)) ∙ into_is l source share give group flow (group_node l u g))

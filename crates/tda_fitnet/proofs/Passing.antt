@@ -7,7 +7,7 @@ use Rattle.tda_model.specs.Bounds.{persons_limit}
 use Rattle.tda_model.proofs.Sums.{sum_same, sum_add, sum_none, sum_zero, each_range}
 use Rattle.tda_model.proofs.Shares.{sum_range_more}
 use Rattle.tda_flow.specs.Network.{Network, arc_count}
-use Rattle.tda_fitnet.specs.GroupFlows.{end_of, arc_after, inflow, after_passing, arc_inflow, IsGrouped, GivesPassed, GroupsPassed}
+use Rattle.tda_fitnet.specs.GroupFlows.{end_of, arc_after, coming, passed, added, IsGrouped, GivesPassed, GroupsPassed}
 use Rattle.tda_fitnet.proofs.Ranges.{below, below_same, below_add}
 
 abbrev at : List ℕ → ℕ → ℕ
@@ -48,18 +48,18 @@ module _ (net : Network) (first node : ℕ) where
 
   -- what an arc adds to the arc of number v
   abbrev pub fed : List ℕ → ℕ → ℕ → ℕ
-  fed flow v k = arc_inflow net first node flow v k
+  fed flow v k = added net first node flow v k
 
   abbrev CanPass : ℕ → Type 0
   CanPass k = 1 ≤ to k → (node ≤ to k) × (arc_after net first node k < N)
 
   at_passed : (k : ℕ) (flow : List ℕ) (some : 1 ≤ node) (can : CanPass k) (count : length flow ≡ N)
-      → (length (after_passing net first node k flow) ≡ N)
-      × ((v : ℕ) → v < first → at (after_passing net first node k flow) v ≡ at flow v)
-      × ((v : ℕ) → first ≤ v → at (after_passing net first node k flow) v ≡ at flow v + fed flow v k)
+      → (length (passed net first node k flow) ≡ N)
+      × ((v : ℕ) → v < first → at (passed net first node k flow) v ≡ at flow v)
+      × ((v : ℕ) → first ≤ v → at (passed net first node k flow) v ≡ at flow v + fed flow v k)
   at_passed k flow some can count = elim (cases_eq (to k) 0) [
     | inl z ↦
-        let same : after_passing net first node k flow ≡ flow = ap (λ b. cond b flow (set flow (arc_after net first node k) (at flow (arc_after net first node k) + at flow k))) (eq-eqb (to k) 0 z) in (
+        let same : passed net first node k flow ≡ flow = ap (λ b. cond b flow (set flow (arc_after net first node k) (at flow (arc_after net first node k) + at flow k))) (eq-eqb (to k) 0 z) in (
           ap length same ∙ count,
           λ v l. ap (λ xs. at xs v) same,
           λ v l. ap (λ xs. at xs v) same ∙ plus_none _ _ (ap (λ b. cond b (at flow k) 0) (ne_eqb (to k) (node + (v - first)) (λ e. omega arith))),
@@ -68,7 +68,7 @@ module _ (net : Network) (first node : ℕ) where
         let h = can (omega arith) in
         let t = arc_after net first node k in
         let y = at flow t + at flow k in
-        let is : after_passing net first node k flow ≡ set flow t y = ap (λ b. cond b flow (set flow t y)) (ne_eqb (to k) 0 some_end) in (
+        let is : passed net first node k flow ≡ set flow t y = ap (λ b. cond b flow (set flow t y)) (ne_eqb (to k) 0 some_end) in (
           ap length is ∙ length-set flow t y ∙ count,
           λ v l. ap (λ xs. at xs v) is ∙ get_or-set_other flow t v y 0 (λ e. omega arith),
           λ v l. ap (λ xs. at xs v) is ∙ elim (cases_eq v t) [
@@ -101,9 +101,9 @@ module _ (net : Network) (first node : ℕ) where
   ]
 
   passed_sum : (flow : List ℕ) (k a n : ℕ) → first ≤ a → CanPass k → 1 ≤ node → length flow ≡ N
-      → sum_by (at (after_passing net first node k flow)) (range_with_len a n) ≤ sum_by (at flow) (range_with_len a n) + at flow k
+      → sum_by (at (passed net first node k flow)) (range_with_len a n) ≤ sum_by (at flow) (range_with_len a n) + at flow k
   passed_sum flow k a n l can some count =
-      let is = sum_same (at (after_passing net first node k flow)) (λ v. at flow v + fed flow v k) (range_with_len a n)
+      let is = sum_same (at (passed net first node k flow)) (λ v. at flow v + fed flow v k) (range_with_len a n)
       (each_range _ a n (λ v low high. (at_passed k flow some can count).2 v (omega arith))) in
       let add = sum_add (at flow) (λ v. fed flow v k) (range_with_len a n) in
       let once = fed_once flow k a n l can some in
@@ -126,7 +126,7 @@ module _ (net : Network) (first node : ℕ) where
     }
 
     pub gives_more : (old flow : List ℕ) (k : ℕ) → give ≤ k → k < first → ((j : ℕ) → j < first → get_or old j 0 ≤ persons_limit)
-        → GivesPassed net first node old k flow → GivesPassed net first node old (suc k) (after_passing net first node k flow)
+        → GivesPassed net first node old k flow → GivesPassed net first node old (suc k) (passed net first node k flow)
     gives_more old flow k low high limit h =
         let p = at_passed k flow is.some (give_can k low high) h.count in record {
           count = p.0;
@@ -168,11 +168,11 @@ module _ (net : Network) (first node : ℕ) where
         limit : (a k : ℕ) → a ≤ k * persons_limit → k ≤ 2 ^ 20 → a ≤ 2 ^ 50
         limit a k h l = omega arith
 
-    pub groups_more : (old flow : List ℕ) (k : ℕ) → first ≤ k → k < arc_count net → GroupsPassed net first node old (suc k) flow → GroupsPassed net first node old k (after_passing net first node k flow)
+    pub groups_more : (old flow : List ℕ) (k : ℕ) → first ≤ k → k < arc_count net → GroupsPassed net first node old (suc k) flow → GroupsPassed net first node old k (passed net first node k flow)
     groups_more old flow k low high h =
         let can = group_can k low high in
         let p = at_passed k flow is.some can h.count in
-        let flow2 = after_passing net first node k flow in
+        let flow2 = passed net first node k flow in
         let later : (j : ℕ) → k ≤ j → at flow2 j ≡ at flow j = λ j l. p.2 j (omega arith) ∙ alone j l in
         let size : N - k ≡ suc (N - suc k) = omega arith in record {
           count = p.0;
@@ -221,7 +221,7 @@ module _ (net : Network) (first node : ℕ) where
 
     -- in the end each group has what comes to it
     pub all_passed : (start old flow : List ℕ) → GivesPassed net first node start first old → GroupsPassed net first node old first flow
-        → (v : ℕ) → first ≤ v → v < arc_count net → get_or flow v 0 ≡ inflow net flow (node + (v - first))
+        → (v : ℕ) → first ≤ v → v < arc_count net → get_or flow v 0 ≡ coming net flow (node + (v - first))
     all_passed start old flow g h v a b =
         let e : first + (N - first) ≡ N = omega (arith, is.within) in
         let f = fed flow v in

@@ -1,13 +1,11 @@
 -- What the parts of the nets are given: bounds in order, what circulations stand for, and how large the layouts are.
-use Rattle.std.proofs.Common.{◌≡◌, ℕ, zero, ◌+◌, ◌*◌, ◌<◌, ◌≤◌, List, length, All, Some, None, refl, sym, ap, ◌∙◌, subst, arith, mul_comm}
+use Rattle.std.proofs.Common.{◌≡◌, ℕ, zero, ◌+◌, ◌*◌, ◌<◌, ◌≤◌, List, length, All, refl, sym, ap, ◌∙◌, subst, arith, mul_comm}
 use Rattle.std.proofs.Math.Nat.{le-mul_of_pos_right}
-use Rattle.std.proofs.lemmas.List.{length-map}
 use Rattle.std.proofs.lemmas.List.Elements.{All-from_get_or}
 use Rattle.tda_model.specs.Schema.{Schema}
 use Rattle.tda_model.specs.Cells.{cell_count, kind_of, possible_cells}
 use Rattle.tda_model.specs.Groups.{kind_count}
-use Rattle.tda_model.specs.Sizes.{FitSize, fit_size}
-use Rattle.tda_model.specs.Spine.{Spine, IsTree, level_of, nation_of, children_of, units_at}
+use Rattle.tda_model.specs.Spine.{Spine, level_of, nation_of, children_of, units_at}
 use Rattle.tda_model.specs.Tables.{Table, persons_in}
 use Rattle.tda_model.specs.Bounds.{persons_limit}
 use Rattle.tda_model.specs.Release.{Inputs, CanBe}
@@ -16,7 +14,7 @@ use Rattle.tda_spine.specs.Judged.{IsWithinLimits}
 use Rattle.tda_spine.specs.Sound.{IsInner}
 use Rattle.tda_invar.specs.Known.{JoinedLists, IsJoined, known_of}
 use Rattle.tda_invar.proofs.Existence.{always}
-use Rattle.tda_flow.specs.Network.{IsSound, arc_count}
+use Rattle.tda_flow.specs.Network.{IsSound}
 use Rattle.tda_groups.specs.Order.{group_at}
 use Rattle.tda_groups.specs.Tree.{Tree, IsTreeOf}
 use Rattle.std.specs.Prelude.{ℤ}
@@ -26,9 +24,9 @@ use Rattle.tda_fitnet.specs.Terms.{group_low, group_high}
 use Rattle.tda_fitnet.specs.Inputs.{inputs_of}
 use Rattle.tda_fitnet.specs.Arcs.{NamedArc, source_arc, share_arc, give_arc, group_arc, state_at, cell_at, child_at, split_network, root_network, split_layout, root_layout, split_arcs, root_arcs}
 use Rattle.tda_fitnet.specs.NamedNetwork.{NamedNetwork}
-use Rattle.tda_fitnet.specs.FitNetwork.{FitNetwork, IsKept, net_at, root_fit, size_of, split_fit}
+use Rattle.tda_fitnet.specs.FitNetwork.{FitNetwork, IsKept, root_fit, split_fit}
 use Rattle.tda_fitnet.specs.Rows.{AreOrdered}
-use Rattle.tda_fitnet.specs.Fits.{SplitsAs, IsSplitNet, RootAs, IsRootNet}
+use Rattle.tda_fitnet.specs.Fits.{SplitsAs, RootAs}
 use Rattle.tda_fitnet.proofs.Ranges.{length_all}
 use Rattle.tda_fitnet.proofs.UnitFacts.{cells_within}
 use Rattle.tda_fitnet.proofs.Sizes.{split_nodes, split_arc_count, root_nodes, root_arc_count}
@@ -161,30 +159,3 @@ module _ (i : Inputs) (groups : List (List ℕ)) (layout : Layout) (named : Name
 
     pub root_kept : IsKept layout named cells all
     root_kept = kept made i.schema named nodes refl (ap length arcs_are ∙ root_arc_list i groups ∙ sym (ap arc_number layout_is)) cells_are all_are (sym (ap (λ l. l.cells) layout_is))
-
--- ---- what the finished fits are: their own nets stand for tables, and have the sizes that are told of them
-sizes : (f : FitNetwork) (n : ℕ) (size : FitSize) → node_number f.layout ≡ size.nodes → length f.arcs ≡ n → n ≡ size.arcs → size_of f ≡ size
-sizes f n size nodes count arcs =
-    ap (λ k. record { nodes = k; arcs = arc_count (net_at f) }) nodes
-    ∙ ap (λ k. record { nodes = size.nodes; arcs = k }) (length-map f.arcs (λ a. a.arc) ∙ count ∙ arcs)
-
-module _ (s : Schema) (sp : Spine) (inv : JoinedLists) (m : List ℤ) (deep : sp.depth ≡ length s.levels) (t : Tree) (f : FitNetwork) where
-  module _ (tree : IsTree sp (nation_of sp)) (is_tree : IsTreeOf s (level_at s 0) t) (is : f ≡ root_fit (inputs_of s sp inv m) t.groups) where
-    pub root_own : RootAs (inputs_of s sp inv m) t.groups → IsRootNet (inputs_of s sp inv m) t.groups (net_at f)
-    root_own = subst (IsRootNet (inputs_of s sp inv m) t.groups) (sym (ap net_at is))
-
-    pub root_size : size_of f ≡ fit_size s sp None
-    root_size =
-        let i = inputs_of s sp inv m in
-        let low : 0 < length s.levels = omega (arith, tree.deep, deep) in
-        ap size_of is ∙ sizes (root_fit i t.groups) (arc_number (root_layout i t.groups)) (fit_size s sp None) (root_nodes i t low is_tree) (root_arc_list i t.groups) (root_arc_count i t low is_tree)
-
-  module _ (p : ℕ) (inner : IsInner sp p) (x : Table) (is_tree : IsTreeOf s (level_at s (level_of sp p + 1)) t) (is : f ≡ split_fit (inputs_of s sp inv m) t.groups p x) where
-    pub split_own : SplitsAs (inputs_of s sp inv m) t.groups p x → IsSplitNet (inputs_of s sp inv m) t.groups p x (net_at f)
-    split_own = subst (IsSplitNet (inputs_of s sp inv m) t.groups p x) (sym (ap net_at is))
-
-    pub split_size : size_of f ≡ fit_size s sp (Some p)
-    split_size =
-        let i = inputs_of s sp inv m in
-        let low : level_of sp p + 1 < length s.levels = omega (arith, inner.above, deep) in
-        ap size_of is ∙ sizes (split_fit i t.groups p x) (arc_number (split_layout i t.groups p)) (fit_size s sp (Some p)) (split_nodes i p t low is_tree) (split_arc_list i t.groups p x) (split_arc_count i p t low is_tree)

@@ -23,7 +23,7 @@ use Rattle.tda_fitnet.specs.Terms.{terms_of}
 use Rattle.tda_fitnet.specs.Arcs.{states, state_at, cell_at, root_layout, root_network}
 use Rattle.tda_fitnet.specs.Fits.{group_sum, AreShares, root_flow}
 use Rattle.tda_fitnet.specs.FitNetwork.{FitNetwork, net_at, root_fit}
-use Rattle.tda_fitnet.specs.GroupFlows.{first_give, first_group, first_node, inflow, IsGrouped}
+use Rattle.tda_fitnet.specs.GroupFlows.{first_give, first_group, first_node, coming, IsGrouped}
 use Rattle.tda_fitnet.specs.Giving.{kind_part}
 use Rattle.tda_fitnet.specs.Plain.{plain_share}
 use Rattle.tda_fitnet.proofs.Ranges.{below, below_same, place_below, length_all, at_source, at_share, at_give, at_group}
@@ -84,7 +84,7 @@ module _ (i : Inputs) (tree : IsTree i.spine (nation_of i.spine)) (has : HasKind
         ≡ below (length (units_at i.spine 1)) (λ n. plain_share i.schema i.spine i.known (slice_index (units_at i.spine 1) n) k)
 
   pub record IsRootSummed (f : FitNetwork) (flow : List ℕ) : Type 0 where
-    pub sums : (k : ℕ) → first_group f.layout ≤ k → k < arc_number f.layout → slice_index flow k ≡ inflow (net_at f) flow (first_node f.layout + (k - first_group f.layout))
+    pub sums : (k : ℕ) → first_group f.layout ≤ k → k < arc_number f.layout → slice_index flow k ≡ coming (net_at f) flow (first_node f.layout + (k - first_group f.layout))
 
   abbrev fit : FitNetwork
   fit = root_fit i groups
@@ -146,7 +146,7 @@ module _ (i : Inputs) (tree : IsTree i.spine (nation_of i.spine)) (has : HasKind
         sym (comes_to_group L (same_states i tree has most fews t is) from small (next_of groups) (from_low i tree has most fews t is) (from_high i tree has most fews t is) (small_in i tree has most fews t is) (down i tree has most fews t is)
         (λ n. i.known.total (state_at i n)) (λ n k. low i.spine i.known (state_at i n) k) (λ n k. high i.spine i.known (state_at i n) k) (λ u g. 0) (λ u g. persons_limit)
         (λ n k. Share (state_at i n) k) (λ u r. Give nation (cell_at i r)) (λ u g. Group nation g) (λ u g. terms_of i (level_at i.schema 0) nation (group_at groups g)) flow 0 q one lq)
-        ∙ sym (m.sums (group_place L 0 q) (omega arith) (omega arith) ∙ ap (inflow (root_network i groups) flow) node)) h lh
+        ∙ sym (m.sums (group_place L 0 q) (omega arith) (omega arith) ∙ ap (coming (root_network i groups) flow) node)) h lh
         ∙ below_same C _ (λ r. tick (table (cell_at i r)) (has_cell groups (cell_at i r) h)) (λ r lr. ap (λ n. tick n (has_cell groups (cell_at i r) h)) (ap (slice_index flow) (sym (place r)) ∙ sym (table_at r lr)))
         ∙ members_sum groups is.groups cells is.whole table h lh
 

@@ -20,7 +20,7 @@ use Rattle.tda_groups.specs.Tree.{Tree, IsTreeOf}
 use Rattle.tda_fitnet.specs.Layout.{arc_number, give_place, group_place, group_node}
 use Rattle.tda_fitnet.specs.Arcs.{cell_at, split_layout, split_network}
 use Rattle.tda_fitnet.specs.FitNetwork.{FitNetwork, net_at, split_fit}
-use Rattle.tda_fitnet.specs.GroupFlows.{first_give, first_group, first_node, inflow, IsGrouped}
+use Rattle.tda_fitnet.specs.GroupFlows.{first_give, first_group, first_node, coming, IsGrouped}
 use Rattle.tda_fitnet.specs.Giving.{kind_part, AreGiven, AreQuotas, IsTableGiven}
 use Rattle.tda_fitnet.proofs.Ranges.{below, below_same, place_below}
 use Rattle.tda_fitnet.proofs.Places.{split_place}
@@ -78,7 +78,7 @@ pub record IsBegun (s : Schema) (children : ℕ) (f : FitNetwork) (table : List 
   pub own : (u k : ℕ) → u < children → k < kind_count s
       → kind_part (λ r. kind_of s (slice_index f.cells r)) k (λ r. slice_index flow (f.layout.sources + (u * length f.cells + r))) (length f.cells) ≡ quota u k
   pub groups : (k : ℕ) → first_group f.layout ≤ k → k < arc_number f.layout
-      → slice_index flow k ≡ inflow (net_at f) flow (first_node f.layout + (k - first_group f.layout))
+      → slice_index flow k ≡ coming (net_at f) flow (first_node f.layout + (k - first_group f.layout))
 
 module _ (i : Inputs) (tree : IsTree i.spine (nation_of i.spine)) (has : HasKinds i.schema) (most : MostHolds i.known)
     (p : ℕ) (here : IsUnit i.spine p) (t : Tree) (is : IsTreeOf i.schema (level_at i.schema (level_of i.spine p + 1)) t)
@@ -113,7 +113,7 @@ module _ (i : Inputs) (tree : IsTree i.spine (nation_of i.spine)) (has : HasKind
             groups = λ u g l lg.
                 let b = place_below U (length t.groups) u g l lg in
                 let node : first_node (split_layout i t.groups p) + (group_place (split_layout i t.groups p) u g - first_group (split_layout i t.groups p)) ≡ group_node (split_layout i t.groups p) u g = omega arith in
-                h.groups (group_place (split_layout i t.groups p) u g) (omega arith) (omega arith) ∙ ap (inflow (split_network i t.groups p (slice_index table)) flow) node;
+                h.groups (group_place (split_layout i t.groups p) u g) (omega arith) (omega arith) ∙ ap (coming (split_network i t.groups p (slice_index table)) flow) node;
           }) sound
 
   pub fit_grouped : (f : FitNetwork) → f ≡ split_fit i t.groups p (slice_index table) → (flow : List ℕ) → IsGrouped (net_at f) (first_give f.layout) (first_group f.layout) (first_node f.layout)
@@ -153,7 +153,7 @@ module _ (i : Inputs) (tree : IsTree i.spine (nation_of i.spine)) (has : HasKind
     pub count : length flow ≡ length old
     pub kept : (k : ℕ) → k < first_group f.layout → slice_index flow k ≡ slice_index old k
     pub sums : (k : ℕ) → first_group f.layout ≤ k → k < arc_number f.layout
-        → slice_index flow k ≡ inflow (net_at f) flow (first_node f.layout + (k - first_group f.layout))
+        → slice_index flow k ≡ coming (net_at f) flow (first_node f.layout + (k - first_group f.layout))
 
   module _ (cleared given flow : List ℕ) where
     fit_ready : IsPutBack fit cleared given flow → IsReady fit flow

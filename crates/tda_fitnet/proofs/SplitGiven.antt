@@ -26,7 +26,7 @@ use Rattle.tda_groups.specs.Chains.{has_cell, smallest_of, next_of}
 use Rattle.tda_fitnet.specs.Terms.{terms_of, group_low, group_high}
 use Rattle.tda_fitnet.specs.Arcs.{cell_at, child_at, split_layout, split_network}
 use Rattle.tda_fitnet.specs.Fits.{group_sum, split_flow}
-use Rattle.tda_fitnet.specs.GroupFlows.{first_give, first_group, first_node, inflow, IsGrouped}
+use Rattle.tda_fitnet.specs.GroupFlows.{first_give, first_group, first_node, coming, IsGrouped}
 use Rattle.tda_fitnet.specs.Giving.{kind_part, AreQuotas}
 use Rattle.tda_fitnet.proofs.Ranges.{below, below_same, length_all, at_source, at_give, at_group}
 use Rattle.tda_fitnet.proofs.Places.{each_place}
@@ -83,7 +83,7 @@ module _ (i : Inputs) (tree : IsTree i.spine (nation_of i.spine)) (has : HasKind
     pub own : (u k : ℕ) → u < length (children_of i.spine p) → k < kind_count i.schema
         → kind_part (λ r. kind_of i.schema (cell_at i r)) k (λ r. slice_index flow (give_place (split_layout i t.groups p) u r)) (length (possible_cells i.schema)) ≡ quota u k
     pub groups : (u g : ℕ) → u < length (children_of i.spine p) → g < length t.groups
-        → slice_index flow (group_place (split_layout i t.groups p) u g) ≡ inflow (split_network i t.groups p x) flow (group_node (split_layout i t.groups p) u g)
+        → slice_index flow (group_place (split_layout i t.groups p) u g) ≡ coming (split_network i t.groups p x) flow (group_node (split_layout i t.groups p) u g)
 
   module _ (quota : ℕ → ℕ → ℕ) (flow : List ℕ) (are : AreQuotas i.schema i.spine i.known p quota) (g : IsSplitGiven quota flow) where
     abbrev give : ℕ → ℕ → ℕ

@@ -2,13 +2,12 @@
 use Rattle.std.specs.Prelude.{ℕ, ◌≡◌, ◌+◌, ◌<◌, ◌==◌, ℤ, List, length, map, position, Some, None, slice_index, slice_index_or, All}
 use Rattle.tda_model.specs.Schema.{Schema}
 use Rattle.tda_model.specs.Cells.{cell_count, possible_cells}
-use Rattle.tda_model.specs.Sizes.{FitSize}
 use Rattle.tda_model.specs.Spine.{Spine, level_of}
 use Rattle.tda_model.specs.Tables.{Table}
 use Rattle.tda_model.specs.Release.{Inputs}
 use Rattle.tda_schema.specs.Stated.{level_at}
 use Rattle.tda_invar.specs.Known.{JoinedLists}
-use Rattle.tda_flow.specs.Network.{Network, arc_count}
+use Rattle.tda_flow.specs.Network.{Network}
 use Rattle.tda_groups.specs.Tree.{Tree, IsTreeOf}
 use Rattle.tda_fitnet.specs.declared.layout.Layout.{Layout}
 use Rattle.tda_fitnet.specs.declared.name.ArcName.{ArcName}
@@ -27,10 +26,6 @@ pub record FitNetwork : Type 0 where
 
 abbrev pub net_at : FitNetwork → Network
 net_at f = network_of f.layout f.arcs
-
--- how large the network is
-abbrev pub size_of : FitNetwork → FitSize
-size_of f = record { nodes = (net_at f).nodes; arcs = arc_count (net_at f) }
 
 abbrev pub name_at : FitNetwork → ℕ → ArcName
 name_at f k = slice_index_or (map (λ a. a.name) f.arcs) k Fixed

@@ -10,7 +10,6 @@ use Rattle.tda_model.specs.Least.{IsFamily, family_deviation}
 use Rattle.tda_model.specs.Release.{Inputs, CanBe, deviation_at}
 use Rattle.tda_loss.specs.declared.Curve.{Curve}
 use Rattle.tda_loss.specs.Curve.{value_of}
-use Rattle.tda_flow.specs.Network.{Network}
 use Rattle.tda_flow.specs.Flow.{IsCirculation, cost}
 use Rattle.tda_groups.specs.Order.{group_at}
 use Rattle.tda_fitnet.specs.Layout.{layout_list}
@@ -37,20 +36,15 @@ split_flow i groups p x family =
     (λ u r. family (child_at i p u) (cell_at i r))
     (λ u g. group_sum groups (family (child_at i p u)) g)
 
--- the circulations of the net are the families of tables that the children can have and that add up to the parent's, and cost their
--- deviations
-pub record IsSplitNet (i : Inputs) (groups : List (List ℕ)) (p : ℕ) (x : Table) (net : Network) : Type 0 where
+-- the circulations are the families of tables that the children can have and that add up to the parent's, and cost their deviations
+pub record SplitsAs (i : Inputs) (groups : List (List ℕ)) (p : ℕ) (x : Table) : Type 0 where
   pub of_family : (family : Tables) → IsFamily (CanBe i) i.schema (children_of i.spine p) x family
-      → IsCirculation net (split_flow i groups p x family)
-  pub of_flow : (flow : List ℕ) → IsCirculation net flow
+      → IsCirculation (split_network i groups p x) (split_flow i groups p x family)
+  pub of_flow : (flow : List ℕ) → IsCirculation (split_network i groups p x) flow
       → (family : Tables) × IsFamily (CanBe i) i.schema (children_of i.spine p) x family × (flow ≡ split_flow i groups p x family)
   pub costs : (curve : ℤ → ℕ) (family : Tables)
-      → cost (net_curve curve) net (split_flow i groups p x family)
+      → cost (net_curve curve) (split_network i groups p x) (split_flow i groups p x family)
       ≡ pos (family_deviation (deviation_at curve i) (children_of i.spine p) family)
-
--- those of the network of the split
-abbrev pub SplitsAs : Inputs → List (List ℕ) → ℕ → Table → Type 0
-SplitsAs i groups p x = IsSplitNet i groups p x (split_network i groups p x)
 
 -- how many persons of each kind each state has, of a table of the nation
 pub record AreSharesOf (s : Schema) (sp : Spine) (known : Published) (x : Table) (shares : Tables) : Type 0 where
@@ -77,16 +71,12 @@ root_flow i groups shares x =
     (λ u r. x (cell_at i r))
     (λ u g. group_sum groups x g)
 
--- the circulations of the net are the tables that the nation can have, each with shares, and cost the table's deviation
-pub record IsRootNet (i : Inputs) (groups : List (List ℕ)) (net : Network) : Type 0 where
+-- the circulations are the tables that the nation can have, each with shares, and cost the table's deviation
+pub record RootAs (i : Inputs) (groups : List (List ℕ)) : Type 0 where
   pub has_shares : (x : Table) → CanBe i (nation_of i.spine) x → (shares : Tables) × AreShares i x shares
   pub of_table : (x : Table) (shares : Tables) → CanBe i (nation_of i.spine) x → AreShares i x shares
-      → IsCirculation net (root_flow i groups shares x)
-  pub of_flow : (flow : List ℕ) → IsCirculation net flow
+      → IsCirculation (root_network i groups) (root_flow i groups shares x)
+  pub of_flow : (flow : List ℕ) → IsCirculation (root_network i groups) flow
       → (x : Table) × (shares : Tables) × CanBe i (nation_of i.spine) x × AreShares i x shares × (flow ≡ root_flow i groups shares x)
   pub costs : (curve : ℤ → ℕ) (x : Table) (shares : Tables)
-      → cost (net_curve curve) net (root_flow i groups shares x) ≡ pos (deviation_at curve i (nation_of i.spine) x)
-
--- those of the network of the root fit
-abbrev pub RootAs : Inputs → List (List ℕ) → Type 0
-RootAs i groups = IsRootNet i groups (root_network i groups)
+      → cost (net_curve curve) (root_network i groups) (root_flow i groups shares x) ≡ pos (deviation_at curve i (nation_of i.spine) x)

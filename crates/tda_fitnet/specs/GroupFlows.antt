@@ -33,24 +33,24 @@ pub record IsGrouped (net : Network) (give first node : ℕ) : Type 0 where
   pub groups : (k : ℕ) → first ≤ k → k < arc_count net → 1 ≤ end_of net k → (node ≤ end_of net k) × (arc_after net first node k < k)
 
 -- what comes to a node along all arcs together
-abbrev pub inflow : Network → List ℕ → ℕ → ℕ
-inflow net flow v = sum_by (λ k. cond (end_of net k == v) (slice_index flow k) 0) (range_with_len 0 (arc_count net))
+abbrev pub coming : Network → List ℕ → ℕ → ℕ
+coming net flow v = sum_by (λ k. cond (end_of net k == v) (slice_index flow k) 0) (range_with_len 0 (arc_count net))
 
 -- the flows when that of an arc is added to the arc of the group where it ends
-abbrev pub after_passing : Network → ℕ → ℕ → ℕ → List ℕ → List ℕ
-after_passing net first node k flow =
+abbrev pub passed : Network → ℕ → ℕ → ℕ → List ℕ → List ℕ
+passed net first node k flow =
     if end_of net k == 0 then flow
     else slice_set flow (arc_after net first node k) (slice_index flow (arc_after net first node k) + slice_index flow k)
 
 -- what an arc adds to the arc of number v
-abbrev pub arc_inflow : Network → ℕ → ℕ → List ℕ → ℕ → ℕ → ℕ
-arc_inflow net first node flow v k = cond (end_of net k == node + (v - first)) (slice_index flow k) 0
+abbrev pub added : Network → ℕ → ℕ → List ℕ → ℕ → ℕ → ℕ
+added net first node flow v k = cond (end_of net k == node + (v - first)) (slice_index flow k) 0
 
 -- after the arcs before k passed on what cells are given
 pub record GivesPassed (net : Network) (first node : ℕ) (old : List ℕ) (k : ℕ) (flow : List ℕ) : Type 0 where
   pub count : length flow ≡ arc_count net
   pub kept : (j : ℕ) → j < first → slice_index flow j ≡ slice_index old j
-  pub sums : (v : ℕ) → first ≤ v → v < arc_count net → slice_index flow v ≡ sum_by (arc_inflow net first node old v) (range_with_len 0 k)
+  pub sums : (v : ℕ) → first ≤ v → v < arc_count net → slice_index flow v ≡ sum_by (added net first node old v) (range_with_len 0 k)
   pub all : sum_by (slice_index flow) (range_with_len first (arc_count net - first)) ≤ k * persons_limit
 
 -- after the arcs from k on passed on what comes to groups
@@ -58,5 +58,5 @@ pub record GroupsPassed (net : Network) (first node : ℕ) (old : List ℕ) (k :
   pub count : length flow ≡ arc_count net
   pub kept : (j : ℕ) → j < first → slice_index flow j ≡ slice_index old j
   pub sums : (v : ℕ) → first ≤ v → v < arc_count net
-      → slice_index flow v ≡ slice_index old v + sum_by (arc_inflow net first node flow v) (range_with_len k (arc_count net - k))
+      → slice_index flow v ≡ slice_index old v + sum_by (added net first node flow v) (range_with_len k (arc_count net - k))
   pub all : sum_by (slice_index flow) (range_with_len first (k - first)) ≤ 2 ^ 50

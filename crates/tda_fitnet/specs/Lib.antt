@@ -1,6 +1,5 @@
 pub mod Layout
 pub mod Terms
-pub mod TermTable
 pub mod Arcs
 pub mod Fits
 pub mod NamedNetwork

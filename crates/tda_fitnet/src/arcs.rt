@@ -1,30 +1,28 @@
 // The arcs of a fit, one by one.
 ghost use Rattle.std.specs.Prelude.{◌≡◌, ℕ, ◌+◌, ◌<◌, ◌≤◌, ◌^◌, ◌++◌, ◌∷◌, [], List, length, Contains, OnOk};
 ghost use Rattle.tda_model.specs.Bounds.{persons_limit, HasKinds};
-ghost use Rattle.tda_model.specs.Schema as model;
 ghost use Rattle.tda_model.specs.Schema.{Level};
-ghost use Rattle.tda_model.specs.Spine as model_spine;
-ghost use Rattle.tda_model.specs.Spine.{level_of};
-ghost use Rattle.tda_schema.specs.Stated.{level_at, query_at};
+ghost use Rattle.tda_model.specs.Spine.{IsUnit, level_of};
+ghost use Rattle.tda_schema.specs.Stated.{level_at, queries_at, query_at};
 ghost use Rattle.tda_invar.specs.Known.{JoinedLists};
+ghost use Rattle.tda_places.specs.Measurements.{AreMeasurementsOf};
 ghost use Rattle.tda_groups.specs.Order.{AreGroups, group_at};
-ghost use Rattle.tda_groups.specs.Tree.{Tree, IsTreeOf};
+ghost use Rattle.tda_groups.specs.Tree.{IsTreeOf};
 ghost use Rattle.tda_fitnet.specs.declared.layout.Layout.{Layout};
 ghost use Rattle.tda_fitnet.specs.Layout.{group_node};
 ghost use Rattle.tda_fitnet.specs.Terms.{kind_with, query_terms, terms_of};
-ghost use Rattle.tda_fitnet.specs.TermTable.{AreTermsAt};
 ghost use Rattle.tda_fitnet.specs.Inputs.{inputs_of};
 ghost use Rattle.tda_fitnet.specs.NamedNetwork.{with_named_arc, with_terms};
 ghost use Rattle.tda_fitnet.specs.Arcs.{NamedArc, source_arc, give_arc, group_end, group_arc};
 
-use crate::level_terms::LevelTerms;
 use crate::name::ArcName;
 use crate::named_net::NamedNet;
 use tda_flow::{Arc, Term};
 use tda_groups::GroupTree;
 use tda_io::{NoMemory, PERSONS};
-use tda_places::Measurements;
+use tda_places::{Measurements, Place};
 use tda_schema::Schema;
+use tda_spine::Spine;
 
 // An arc from the hub to the n-th source, of just this amount.
 pub(crate) fn push_source(fit: &mut NamedNet, n: usize, amount: u64) -> Result<(), NoMemory>
@@ -60,8 +58,7 @@ pub(crate) fn push_give(
     requires room { length fit.old.arcs < 2 ^ 20 }
     ensures nodes { OnOk result (fit.new.nodes ≡ fit.old.nodes) }
     ensures count { OnOk result (length fit.new.arcs ≡ length fit.old.arcs + 1) }
-    ensures arcs { (l : Layout) (u : ℕ) → base ≡ group_node l u 0 →
-        OnOk result (fit.new.arcs ≡ fit.old.arcs ++ give_arc l tree.now.groups from u unit cell ∷ []) }
+    ensures arcs { (l : Layout) (u : ℕ) → base ≡ group_node l u 0 → OnOk result (fit.new.arcs ≡ fit.old.arcs ++ give_arc l tree.now.groups from u unit cell ∷ []) }
 {
     let arc = Arc {
         from,
@@ -87,35 +84,39 @@ pub(crate) fn kind_of_group(schema: &Schema, tree: &GroupTree, group: u32) -> Op
     }
 }
 
-// The term of a query at a unit's group, where a class of the query has just the group's cells. The unit's places
-// begin at index `first`.
+// The term of a query at a unit's group, by the class of the group's first cell.
 fn push_query_term(
     fit: &mut NamedNet,
-    terms: &LevelTerms,
+    schema: &Schema,
+    spine: &Spine,
+    tree: &GroupTree,
     m: &Measurements,
-    first: u64,
+    unit: u32,
     query: usize,
     group: u32,
 ) -> Result<(), NoMemory>
-    requires ready { (s : model.Schema) × (sp : model_spine.Spine) × (t : Tree) × (unit : ℕ) ×
-        AreTermsAt s sp t terms.now m.now unit first × (group < length t.groups) }
-    requires query { query < length terms.now.places }
-    requires last { (before : List NamedArc) × (last : NamedArc) × (fit.old.arcs ≡ before ++ last ∷ []) ×
-        (length last.terms < 8) }
-    ensures { (s : model.Schema) (sp : model_spine.Spine) (t : Tree) (unit : ℕ) →
-        AreTermsAt s sp t terms.now m.now unit first → group < length t.groups →
-        (inv : JoinedLists) (before : List NamedArc) (last : NamedArc) → fit.old.arcs ≡ before ++ last ∷ [] →
-        OnOk result (fit.new ≡ record {
-          nodes = fit.old.nodes;
-          arcs = before ++ with_terms last
-              (query_terms (inputs_of s sp inv m.now) unit query (query_at s (level_of sp unit) query)
-              (group_at t.groups group)) ∷ [];
-        }) }
+    requires belong { spine.now.depth ≡ length schema.now.levels }
+    requires unit { IsUnit spine.now unit }
+    requires level { level_of spine.now unit < length schema.now.levels }
+    requires query { query < length (queries_at schema.now (level_of spine.now unit)) }
+    requires tree { IsTreeOf schema.now (level_at schema.now (level_of spine.now unit)) tree.now }
+    requires group { group < length tree.now.groups }
+    requires measured { AreMeasurementsOf schema.now spine.now m.now }
+    requires last { (before : List NamedArc) × (last : NamedArc) × (fit.old.arcs ≡ before ++ last ∷ []) × (length last.terms < 8) }
+    ensures { (inv : JoinedLists) (before : List NamedArc) (last : NamedArc) → fit.old.arcs ≡ before ++ last ∷ [] → OnOk result (fit.new ≡ record { nodes = fit.old.nodes; arcs = before ++ with_terms last (query_terms (inputs_of schema.now spine.now inv m.now) unit query (query_at schema.now (level_of spine.now unit) query) (group_at tree.now.groups group)) ∷ [] }) }
 {
-    if let Some(place) = terms.place(query, group) {
+    let level = spine.level(unit);
+    let _queries = schema.queries(level);
+    let class = schema.class_of(level, query, tree.members(group)[0]);
+    if tree.class_group(query, class) == group {
+        let place = Place {
+            unit,
+            query: query as u32,
+            class,
+        };
         fit.push_term(Term {
-            weight: terms.weight(query),
-            target: m.get(first + u64::from(place)),
+            weight: schema.weight(level, query),
+            target: m.at(schema, spine, place),
         })?;
     }
     Ok(())
@@ -124,27 +125,25 @@ fn push_query_term(
 // The terms of a unit's group, whose arc stands last and has none.
 fn push_terms(
     fit: &mut NamedNet,
-    terms: &LevelTerms,
+    schema: &Schema,
+    spine: &Spine,
+    tree: &GroupTree,
     m: &Measurements,
-    first: u64,
+    unit: u32,
     group: u32,
 ) -> Result<(), NoMemory>
-    requires ready { (s : model.Schema) × (sp : model_spine.Spine) × (t : Tree) × (unit : ℕ) ×
-        AreTermsAt s sp t terms.now m.now unit first × (group < length t.groups) }
-    requires last { (before : List NamedArc) × (last : NamedArc) × (fit.old.arcs ≡ before ++ last ∷ []) ×
-        (last.terms ≡ []) }
-    ensures { (s : model.Schema) (sp : model_spine.Spine) (t : Tree) (unit : ℕ) →
-        AreTermsAt s sp t terms.now m.now unit first → group < length t.groups →
-        (inv : JoinedLists) (before : List NamedArc) (last : NamedArc) → fit.old.arcs ≡ before ++ last ∷ [] →
-        OnOk result (fit.new ≡ record {
-          nodes = fit.old.nodes;
-          arcs = before ++ with_terms last
-              (terms_of (inputs_of s sp inv m.now) (level_at s (level_of sp unit)) unit
-              (group_at t.groups group)) ∷ [];
-        }) }
+    requires belong { spine.now.depth ≡ length schema.now.levels }
+    requires unit { IsUnit spine.now unit }
+    requires level { level_of spine.now unit < length schema.now.levels }
+    requires tree { IsTreeOf schema.now (level_at schema.now (level_of spine.now unit)) tree.now }
+    requires group { group < length tree.now.groups }
+    requires measured { AreMeasurementsOf schema.now spine.now m.now }
+    requires last { (before : List NamedArc) × (last : NamedArc) × (fit.old.arcs ≡ before ++ last ∷ []) × (last.terms ≡ []) }
+    ensures { (inv : JoinedLists) (before : List NamedArc) (last : NamedArc) → fit.old.arcs ≡ before ++ last ∷ [] → OnOk result (fit.new ≡ record { nodes = fit.old.nodes; arcs = before ++ with_terms last (terms_of (inputs_of schema.now spine.now inv m.now) (level_at schema.now (level_of spine.now unit)) unit (group_at tree.now.groups group)) ∷ [] }) }
 {
-    for query in 0..terms.queries() {
-        push_query_term(fit, terms, m, first, query, group)?;
+    let level = spine.level(unit);
+    for query in 0..schema.queries(level) {
+        push_query_term(fit, schema, spine, tree, m, unit, query, group)?;
     }
     Ok(())
 }
@@ -155,8 +154,7 @@ fn end_of(tree: &GroupTree, base: u32, group: u32) -> u32
     requires groups { AreGroups tree.now.groups }
     requires base { base + length tree.now.groups ≤ 65536 }
     ensures low { result ≤ base + group }
-    ensures node { (l : Layout) (u : ℕ) → base ≡ group_node l u 0 →
-        result ≡ group_end l tree.now.groups u group }
+    ensures node { (l : Layout) (u : ℕ) → base ≡ group_node l u 0 → result ≡ group_end l tree.now.groups u group }
 {
     match tree.next(group) {
         Some(next) => base + next,
@@ -164,22 +162,25 @@ fn end_of(tree: &GroupTree, base: u32, group: u32) -> u32
     }
 }
 
-// The arc of a unit's group, with its terms. The unit's places begin at index `first`.
+// The arc of a unit's group, with its terms.
 pub(crate) fn push_group(
     fit: &mut NamedNet,
+    schema: &Schema,
+    spine: &Spine,
     tree: &GroupTree,
-    terms: &LevelTerms,
     m: &Measurements,
-    first: u64,
     base: u32,
     unit: u32,
     group: u32,
     low: u64,
     high: u64,
 ) -> Result<(), NoMemory>
-    requires ready { (s : model.Schema) × (sp : model_spine.Spine) ×
-        AreTermsAt s sp tree.now terms.now m.now unit first }
+    requires belong { spine.now.depth ≡ length schema.now.levels }
+    requires unit { IsUnit spine.now unit }
+    requires level { level_of spine.now unit < length schema.now.levels }
+    requires tree { IsTreeOf schema.now (level_at schema.now (level_of spine.now unit)) tree.now }
     requires group { group < length tree.now.groups }
+    requires measured { AreMeasurementsOf schema.now spine.now m.now }
     requires nodes { base + length tree.now.groups ≤ fit.old.nodes }
     requires nodes_limit { fit.old.nodes ≤ 65536 }
     requires room { length fit.old.arcs < 2 ^ 20 }
@@ -187,11 +188,7 @@ pub(crate) fn push_group(
     requires limit { high ≤ persons_limit }
     ensures nodes { OnOk result (fit.new.nodes ≡ fit.old.nodes) }
     ensures count { OnOk result (length fit.new.arcs ≡ length fit.old.arcs + 1) }
-    ensures arcs { (s : model.Schema) (sp : model_spine.Spine) →
-        AreTermsAt s sp tree.now terms.now m.now unit first → (inv : JoinedLists) (l : Layout) (u : ℕ) →
-        base ≡ group_node l u 0 → OnOk result
-        (fit.new.arcs ≡ fit.old.arcs ++ group_arc (inputs_of s sp inv m.now) l tree.now.groups
-        (level_at s (level_of sp unit)) u unit group low high ∷ []) }
+    ensures arcs { (inv : JoinedLists) (l : Layout) (u : ℕ) → base ≡ group_node l u 0 → OnOk result (fit.new.arcs ≡ fit.old.arcs ++ group_arc (inputs_of schema.now spine.now inv m.now) l tree.now.groups (level_at schema.now (level_of spine.now unit)) u unit group low high ∷ []) }
 {
     let name = ArcName::Group { unit, group };
     let arc = Arc {
@@ -201,5 +198,5 @@ pub(crate) fn push_group(
         high,
     };
     fit.push(name, arc)?;
-    push_terms(fit, terms, m, first, group)
+    push_terms(fit, schema, spine, tree, m, unit, group)
 }

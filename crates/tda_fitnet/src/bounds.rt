@@ -21,11 +21,9 @@ use tda_spine::Spine;
 fn kind_bounds(inv: &Invariants, unit: u32, kind: Option<u16>) -> (u64, u64)
     requires unit { unit < inv.now.lows.units }
     requires kind { IfSome kind (λ k. k < inv.now.lows.kinds) }
-    ensures low { (s : model.Schema) (sp : model_spine.Spine) → IsJoined s sp inv.now →
-        result.0 ≡ elim kind [ Some k ↦ low sp (known_of sp inv.now) unit k | None ↦ 0 ] }
+    ensures low { (s : model.Schema) (sp : model_spine.Spine) → IsJoined s sp inv.now → result.0 ≡ elim kind [ Some k ↦ low sp (known_of sp inv.now) unit k | None ↦ 0 ] }
     ensures limit { result.1 ≤ persons_limit }
-    ensures high { (s : model.Schema) (sp : model_spine.Spine) → IsJoined s sp inv.now →
-        result.1 ≡ elim kind [ Some k ↦ high sp (known_of sp inv.now) unit k | None ↦ persons_limit ] }
+    ensures high { (s : model.Schema) (sp : model_spine.Spine) → IsJoined s sp inv.now → result.1 ≡ elim kind [ Some k ↦ high sp (known_of sp inv.now) unit k | None ↦ persons_limit ] }
 {
     match kind {
         Some(k) => (inv.low(unit, k), inv.high(unit, k)),
@@ -33,15 +31,11 @@ fn kind_bounds(inv: &Invariants, unit: u32, kind: Option<u16>) -> (u64, u64)
     }
 }
 
-// How many persons a state has, as the bounds of the group of all possible cells, and any number for other groups
-// and units.
+// How many persons a state has, as the bounds of the group of all possible cells, and any number for other groups and units.
 fn total_bounds(inv: &Invariants, unit: u32, group: u32) -> (u64, u64)
     requires unit { unit < length inv.now.unit_totals }
-    ensures low { (s : model.Schema) (sp : model_spine.Spine) → IsJoined s sp inv.now →
-        result.0 ≡ (if (group == 0) && is_at sp 1 unit then (known_of sp inv.now).total unit else 0) }
-    ensures high { (s : model.Schema) (sp : model_spine.Spine) → IsJoined s sp inv.now →
-        result.1 ≡ (if (group == 0) && is_at sp 1 unit then
-        (known_of sp inv.now).total unit else persons_limit) }
+    ensures low { (s : model.Schema) (sp : model_spine.Spine) → IsJoined s sp inv.now → result.0 ≡ (if (group == 0) && is_at sp 1 unit then (known_of sp inv.now).total unit else 0) }
+    ensures high { (s : model.Schema) (sp : model_spine.Spine) → IsJoined s sp inv.now → result.1 ≡ (if (group == 0) && is_at sp 1 unit then (known_of sp inv.now).total unit else persons_limit) }
 {
     if group != 0 {
         return (0, PERSONS);
@@ -52,8 +46,8 @@ fn total_bounds(inv: &Invariants, unit: u32, group: u32) -> (u64, u64)
     }
 }
 
-// The bounds of a unit's group: a kind's, where it has just the cells of a kind, and a state's total, where it is the
-// group of all possible cells; both where both hold.
+// The bounds of a unit's group: a kind's, where it has just the cells of a kind, and a state's total, where it is the group
+// of all possible cells; both where both hold.
 pub(crate) fn group_bounds(
     schema: &Schema,
     spine: &Spine,
@@ -66,13 +60,10 @@ pub(crate) fn group_bounds(
     requires unit { IsUnit spine.now unit }
     requires tree { (l : model.Level) × IsTreeOf schema.now l tree.now }
     requires group { group < length tree.now.groups }
-    ensures low { (m : List ℤ) → result.0
-        ≡ group_low (inputs_of schema.now spine.now inv.now m) unit group (group_at tree.now.groups group) }
+    ensures low { (m : List ℤ) → result.0 ≡ group_low (inputs_of schema.now spine.now inv.now m) unit group (group_at tree.now.groups group) }
     ensures limit { result.1 ≤ persons_limit }
-    ensures high { (m : List ℤ) → result.1
-        ≡ group_high (inputs_of schema.now spine.now inv.now m) unit group (group_at tree.now.groups group) }
+    ensures high { (m : List ℤ) → result.1 ≡ group_high (inputs_of schema.now spine.now inv.now m) unit group (group_at tree.now.groups group) }
 {
-    // The clauses alone speak of the spine.
     let _ = spine;
     let kind = kind_bounds(inv, unit, kind_of_group(schema, tree, group));
     let total = total_bounds(inv, unit, group);

@@ -38,13 +38,7 @@ impl FitNet {
     /// A network of named arcs.
     pub(crate) fn new(layout: Layout, named: NamedNet, cells: Vec<u32>, all_cells: u32) -> FitNet
         requires { IsKept layout named cells.items all_cells }
-        ensures { result ≡ record {
-          layout = layout;
-          arcs = named.arcs;
-          cells = cells.items;
-          all_cells =
-              all_cells;
-        } }
+        ensures { result ≡ record { layout = layout; arcs = named.arcs; cells = cells.items; all_cells = all_cells } }
     {
         FitNet {
             layout,
@@ -60,7 +54,6 @@ impl FitNet {
         ensures sound { IsSound result.now }
         ensures layout { HasLayout self.now }
     {
-        // Brings in what each network keeps of its layout.
         let _ = &self.layout;
         self.named.net()
     }

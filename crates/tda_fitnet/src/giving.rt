@@ -19,8 +19,8 @@ pub(crate) const MOST_KINDS: usize = 128;
 
 /// Gives a unit persons of the possible cells, cell by cell in order: of each kind its quota, or all that there are.
 ///
-/// The cells' persons stand first in the list of flows, and what the unit has of them from number `first` on. The
-/// quotas become what is left of them.
+/// The cells' persons stand first in the list of flows, and what the unit has of them from number `first` on. The quotas
+/// become what is left of them.
 pub(crate) fn give_out(
     schema: &Schema,
     cells: &[u32],
@@ -32,8 +32,7 @@ pub(crate) fn give_out(
     requires kinds { kind_count schema.now ≤ length quotas.old }
     requires apart { length cells.now ≤ first }
     requires room { first + length cells.now ≤ length flow.old }
-    ensures { IsGiven (λ r. kind_of schema.now (slice_index cells.now r))
-        (length cells.now) first quotas.old flow.old (length cells.now) quotas.new flow.new }
+    ensures { IsGiven (λ r. kind_of schema.now (slice_index cells.now r)) (length cells.now) first quotas.old flow.old (length cells.now) quotas.new flow.new }
 {
     for (r, cell) in cells.iter().enumerate() {
         let kind = schema.kind_of(*cell) as usize;
@@ -69,13 +68,8 @@ pub(crate) fn give_shares(
     requires apart { length cells.now ≤ first }
     requires room { first + units * length cells.now ≤ length flow.old }
     requires shares { length shares.now ≡ units * kind_count schema.now }
-    requires enough { (k : ℕ) → k < kind_count schema.now →
-        sum_by (λ u. slice_index shares.now (u * kind_count schema.now + k)) (range_with_len 0 units)
-        ≤ kind_part (λ r. kind_of schema.now (slice_index cells.now r)) k (slice_index flow.old)
-        (length cells.now) }
-    ensures { AreGiven (λ r. kind_of schema.now (slice_index cells.now r)) (length cells.now)
-        (kind_count schema.now) first (λ u k. slice_index shares.now
-        (u * kind_count schema.now + k)) flow.old units flow.new }
+    requires enough { (k : ℕ) → k < kind_count schema.now → sum_by (λ u. slice_index shares.now (u * kind_count schema.now + k)) (range_with_len 0 units) ≤ kind_part (λ r. kind_of schema.now (slice_index cells.now r)) k (slice_index flow.old) (length cells.now) }
+    ensures { AreGiven (λ r. kind_of schema.now (slice_index cells.now r)) (length cells.now) (kind_count schema.now) first (λ u k. slice_index shares.now (u * kind_count schema.now + k)) flow.old units flow.new }
 {
     let kinds = schema.kinds() as usize;
     for unit in 0..units {
@@ -92,9 +86,7 @@ fn sum_kinds(schema: &Schema, cells: &[u32], flow: &[u64], sums: &mut [u64])
     requires flow { length cells.now ≤ length flow.now }
     requires few { sum_by (slice_index flow.now) (range_with_len 0 (length cells.now)) ≤ persons_limit }
     ensures count { length sums.new ≡ length sums.old }
-    ensures sums { (k : ℕ) → k < length sums.old →
-        slice_index sums.new k ≡ kind_part (λ r. kind_of schema.now (slice_index cells.now r)) k
-        (slice_index flow.now) (length cells.now) }
+    ensures sums { (k : ℕ) → k < length sums.old → slice_index sums.new k ≡ kind_part (λ r. kind_of schema.now (slice_index cells.now r)) k (slice_index flow.now) (length cells.now) }
 {
     sums.fill(0);
     for (r, cell) in cells.iter().enumerate() {
@@ -107,19 +99,16 @@ fn take_needs(inv: &Invariants, unit: u32, kinds: u16, sums: &mut [u64])
     requires unit { unit < inv.now.lows.units }
     requires kinds { kinds ≤ inv.now.lows.kinds }
     requires sums { kinds ≤ length sums.old }
-    requires enough { (s : model.Schema) × (sp : spines.Spine) × IsJoined s sp inv.now ×
-        ((k : ℕ) → k < kinds → low sp (known_of sp inv.now) unit k ≤ slice_index sums.old k) }
+    requires enough { (s : model.Schema) × (sp : spines.Spine) × IsJoined s sp inv.now × ((k : ℕ) → k < kinds → low sp (known_of sp inv.now) unit k ≤ slice_index sums.old k) }
     ensures count { length sums.new ≡ length sums.old }
-    ensures sums { (s : model.Schema) (sp : spines.Spine) → IsJoined s sp inv.now → (k : ℕ) → k < kinds →
-        slice_index sums.new k ≡ slice_index sums.old k - low sp (known_of sp inv.now) unit k }
+    ensures sums { (s : model.Schema) (sp : spines.Spine) → IsJoined s sp inv.now → (k : ℕ) → k < kinds → slice_index sums.new k ≡ slice_index sums.old k - low sp (known_of sp inv.now) unit k }
 {
     for kind in 0..kinds {
         sums[kind as usize] -= inv.low(unit, kind);
     }
 }
 
-// The quotas of a child: of each kind as many as the child must have, and of the spare persons as many as it may
-// have besides.
+// The quotas of a child: of each kind as many as the child must have, and of the spare persons as many as it may have besides.
 fn set_quotas(inv: &Invariants, child: u32, kinds: u16, spare: &mut [u64], quotas: &mut [u64])
     requires child { child < inv.now.lows.units }
     requires kinds { kinds ≤ inv.now.lows.kinds }
@@ -127,12 +116,8 @@ fn set_quotas(inv: &Invariants, child: u32, kinds: u16, spare: &mut [u64], quota
     requires quotas { kinds ≤ length quotas.old }
     ensures spare_count { length spare.new ≡ length spare.old }
     ensures count { length quotas.new ≡ length quotas.old }
-    ensures quotas { (s : model.Schema) (sp : spines.Spine) → IsJoined s sp inv.now → (k : ℕ) → k < kinds →
-        slice_index quotas.new k ≡ low sp (known_of sp inv.now) child k + min (slice_index spare.old k)
-        (high sp (known_of sp inv.now) child k - low sp (known_of sp inv.now) child k) }
-    ensures spare { (s : model.Schema) (sp : spines.Spine) → IsJoined s sp inv.now → (k : ℕ) → k < kinds →
-        slice_index spare.new k ≡ slice_index spare.old k - min (slice_index spare.old k)
-        (high sp (known_of sp inv.now) child k - low sp (known_of sp inv.now) child k) }
+    ensures quotas { (s : model.Schema) (sp : spines.Spine) → IsJoined s sp inv.now → (k : ℕ) → k < kinds → slice_index quotas.new k ≡ low sp (known_of sp inv.now) child k + min (slice_index spare.old k) (high sp (known_of sp inv.now) child k - low sp (known_of sp inv.now) child k) }
+    ensures spare { (s : model.Schema) (sp : spines.Spine) → IsJoined s sp inv.now → (k : ℕ) → k < kinds → slice_index spare.new k ≡ slice_index spare.old k - min (slice_index spare.old k) (high sp (known_of sp inv.now) child k - low sp (known_of sp inv.now) child k) }
 {
     for kind in 0..kinds {
         let k = kind as usize;
@@ -143,8 +128,8 @@ fn set_quotas(inv: &Invariants, child: u32, kinds: u16, spare: &mut [u64], quota
     }
 }
 
-/// Gives the children of a unit below the nation persons of the possible cells, cell by cell in order: of each kind a
-/// child takes what it must have, and of the spare persons as many as it may have besides.
+/// Gives the children of a unit below the nation persons of the possible cells, cell by cell in order: of each kind a child takes
+/// what it must have, and of the spare persons as many as it may have besides.
 pub(crate) fn give_within(
     schema: &Schema,
     spine: &Spine,
@@ -160,20 +145,9 @@ pub(crate) fn give_within(
     requires apart { length cells.now ≤ first }
     requires room { first + length (children_of spine.now parent) * length cells.now ≤ length flow.old }
     requires few { sum_by (slice_index flow.old) (range_with_len 0 (length cells.now)) ≤ persons_limit }
-    requires needs { (k : ℕ) → k < kind_count schema.now →
-        low spine.now (known_of spine.now inv.now) parent k
-        ≤ kind_part (λ r. kind_of schema.now (slice_index cells.now r)) k (slice_index flow.old)
-        (length cells.now) }
-    requires enough { (k : ℕ) → k < kind_count schema.now →
-        sum_by (λ u. split_quota spine.now (known_of spine.now inv.now) parent
-        (λ r. kind_of schema.now (slice_index cells.now r)) flow.old (length cells.now) u k)
-        (range_with_len 0 (length (children_of spine.now parent)))
-        ≤ kind_part (λ r. kind_of schema.now (slice_index cells.now r)) k (slice_index flow.old)
-        (length cells.now) }
-    ensures { AreGiven (λ r. kind_of schema.now (slice_index cells.now r)) (length cells.now)
-        (kind_count schema.now) first (split_quota spine.now (known_of spine.now inv.now) parent
-        (λ r. kind_of schema.now (slice_index cells.now r)) flow.old (length cells.now)) flow.old
-        (length (children_of spine.now parent)) flow.new }
+    requires needs { (k : ℕ) → k < kind_count schema.now → low spine.now (known_of spine.now inv.now) parent k ≤ kind_part (λ r. kind_of schema.now (slice_index cells.now r)) k (slice_index flow.old) (length cells.now) }
+    requires enough { (k : ℕ) → k < kind_count schema.now → sum_by (λ u. split_quota spine.now (known_of spine.now inv.now) parent (λ r. kind_of schema.now (slice_index cells.now r)) flow.old (length cells.now) u k) (range_with_len 0 (length (children_of spine.now parent))) ≤ kind_part (λ r. kind_of schema.now (slice_index cells.now r)) k (slice_index flow.old) (length cells.now) }
+    ensures { AreGiven (λ r. kind_of schema.now (slice_index cells.now r)) (length cells.now) (kind_count schema.now) first (split_quota spine.now (known_of spine.now inv.now) parent (λ r. kind_of schema.now (slice_index cells.now r)) flow.old (length cells.now)) flow.old (length (children_of spine.now parent)) flow.new }
 {
     let kinds = schema.kinds();
     let mut spare = [0; MOST_KINDS];

@@ -1,7 +1,6 @@
 // How what belongs to the arcs of a fit stands in one list.
-ghost use Rattle.std.specs.Prelude.{◌≡◌, ◌+◌, ◌^◌, ◌<◌, ◌≤◌};
-ghost use Rattle.tda_fitnet.specs.Layout.{arc_number, node_number, group_node};
-ghost use Rattle.tda_fitnet.specs.GroupFlows.{first_give, first_group, first_node};
+ghost use Rattle.std.specs.Prelude.{◌≡◌, ◌+◌, ◌<◌, ◌≤◌};
+ghost use Rattle.tda_fitnet.specs.Layout.{node_number, group_node};
 
 /// How many of each there are, in a list that has one number for each source, then by state and kind, by unit
 /// and cell, and by unit and group. The networks of fits have at most 2^11 nodes and 2^16 arcs.
@@ -16,20 +15,12 @@ pub(crate) struct Layout {
 }
 
 impl Layout {
-    /// The node of the first unit's first group.
-    pub(crate) fn first_node(self) -> u32
-        requires { node_number self ≤ 65536 }
-        ensures { result ≡ first_node self }
-    {
-        1 + self.sources + self.kinds
-    }
-
     /// How many nodes there are.
     pub(crate) fn nodes(self) -> u32
         requires { node_number self ≤ 65536 }
         ensures { result ≡ node_number self }
     {
-        self.first_node() + self.units * self.groups
+        1 + self.sources + self.kinds + self.units * self.groups
     }
 
     /// The node of a unit's first group.
@@ -39,22 +30,6 @@ impl Layout {
         ensures node { result ≡ group_node self unit 0 }
         ensures room { result + self.groups ≤ node_number self }
     {
-        self.first_node() + unit * self.groups
-    }
-
-    /// Where the gives begin in the list.
-    pub(crate) fn first_give(self) -> usize
-        requires { arc_number self < 2 ^ 63 }
-        ensures { result ≡ first_give self }
-    {
-        self.sources as usize + self.states as usize * self.kinds as usize
-    }
-
-    /// Where the groups begin in the list.
-    pub(crate) fn first_group_arc(self) -> usize
-        requires { arc_number self < 2 ^ 63 }
-        ensures { result ≡ first_group self }
-    {
-        self.first_give() + self.units as usize * self.cells as usize
+        1 + self.sources + self.kinds + unit * self.groups
     }
 }

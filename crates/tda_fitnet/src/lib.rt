@@ -4,12 +4,10 @@
 mod arcs;
 mod bounds;
 mod counts;
-mod first_place;
 mod fit_net;
 mod giving;
 mod group_flows;
 mod layout;
-mod level_terms;
 mod name;
 mod named_net;
 mod root;

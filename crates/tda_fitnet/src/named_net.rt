@@ -46,7 +46,6 @@ impl NamedNet {
         ensures value { result.now ≡ net_of self.now }
         ensures sound { IsSound result.now }
     {
-        // Tells that the net is sound.
         let _ = self.net.nodes();
         &self.net
     }
@@ -63,8 +62,7 @@ impl NamedNet {
     pub(crate) fn push(&mut self, name: ArcName, arc: Arc) -> Result<(), NoMemory>
         requires fits { IsArcOf self.old.nodes arc }
         requires room { length self.old.arcs < 2 ^ 20 }
-        ensures { OnOk result (self.new ≡ with_named_arc self.old
-            (record { name = name; arc = arc; terms = [] })) }
+        ensures { OnOk result (self.new ≡ with_named_arc self.old (record { name = name; arc = arc; terms = [] })) }
     {
         self.names.reserve(1)?;
         self.net.push_arc(arc)?;
@@ -75,14 +73,8 @@ impl NamedNet {
     /// Adds a term to the last arc, which has fewer than 8.
     pub(crate) fn push_term(&mut self, term: Term) -> Result<(), NoMemory>
         requires fits { IsNetTerm term }
-        requires last { (before : List NamedArc) × (last : NamedArc) × (self.old.arcs ≡ before ++ last ∷ []) ×
-            (length last.terms < 8) }
-        ensures { (before : List NamedArc) (last : NamedArc) → self.old.arcs ≡ before ++ last ∷ [] →
-            OnOk result (self.new ≡ record {
-              nodes = self.old.nodes;
-              arcs = before
-                  ++ more_term last term ∷ [];
-            }) }
+        requires last { (before : List NamedArc) × (last : NamedArc) × (self.old.arcs ≡ before ++ last ∷ []) × (length last.terms < 8) }
+        ensures { (before : List NamedArc) (last : NamedArc) → self.old.arcs ≡ before ++ last ∷ [] → OnOk result (self.new ≡ record { nodes = self.old.nodes; arcs = before ++ more_term last term ∷ [] }) }
     {
         self.net.push_term(term)?;
         Ok(())

@@ -1,9 +1,8 @@
 // The network of the nation's fit.
-ghost use Rattle.std.specs.Prelude.{◌≡◌, ℕ, ◌+◌, ◌*◌, ◌<◌, ◌≤◌, ◌^◌, ◌++◌, [], ℤ, List, length, slice_index, All, IfOk, OnOk, None};
+ghost use Rattle.std.specs.Prelude.{◌≡◌, ℕ, ◌+◌, ◌*◌, ◌<◌, ◌≤◌, ◌^◌, ◌++◌, [], ℤ, List, length, slice_index, All, IfOk, OnOk};
 ghost use Rattle.tda_model.specs.Bounds.{persons_limit};
 ghost use Rattle.tda_model.specs.Schema as model;
 ghost use Rattle.tda_model.specs.Groups.{kind_count};
-ghost use Rattle.tda_model.specs.Sizes.{fit_size};
 ghost use Rattle.tda_model.specs.Spine as model_spine;
 ghost use Rattle.tda_model.specs.Spine.{IsUnit, level_of, units_at, nation_of};
 ghost use Rattle.tda_schema.specs.Stated.{level_at};
@@ -16,14 +15,12 @@ ghost use Rattle.tda_fitnet.specs.Layout.{node_number, arc_number};
 ghost use Rattle.tda_fitnet.specs.Inputs.{inputs_of};
 ghost use Rattle.tda_fitnet.specs.Arcs as spec;
 ghost use Rattle.tda_fitnet.specs.Rows.{total_arcs, state_shares, all_shares, nation_gives, nation_groups};
-ghost use Rattle.tda_fitnet.specs.Fits.{RootAs, IsRootNet};
-ghost use Rattle.tda_fitnet.specs.FitNetwork.{net_at, root_fit, size_of};
+ghost use Rattle.tda_fitnet.specs.Fits.{RootAs};
+ghost use Rattle.tda_fitnet.specs.FitNetwork.{root_fit};
 
 use crate::arcs::{push_give, push_group, push_source};
-use crate::first_place::{level_first, unit_first};
 use crate::fit_net::FitNet;
 use crate::layout::Layout;
-use crate::level_terms::level_terms;
 use crate::name::ArcName;
 use crate::named_net::NamedNet;
 use std::alloc::Global;
@@ -44,8 +41,7 @@ fn push_totals(fit: &mut NamedNet, spine: &Spine, inv: &Invariants) -> Result<()
     requires room { length fit.old.arcs + length (units_at spine.now 1) ≤ 2 ^ 20 }
     ensures nodes { OnOk result (fit.new.nodes ≡ fit.old.nodes) }
     ensures count { OnOk result (length fit.new.arcs ≡ length fit.old.arcs + length (units_at spine.now 1)) }
-    ensures arcs { OnOk result (fit.new.arcs
-        ≡ fit.old.arcs ++ total_arcs (units_at spine.now 1) (known_of spine.now inv.now).total) }
+    ensures arcs { OnOk result (fit.new.arcs ≡ fit.old.arcs ++ total_arcs (units_at spine.now 1) (known_of spine.now inv.now).total) }
 {
     for (n, state) in spine.at_level(1).iter().enumerate() {
         push_source(fit, n, inv.total(*state).unwrap_or(0))?;
@@ -70,9 +66,7 @@ fn push_state_shares(
     requires room { length fit.old.arcs + layout.kinds ≤ 2 ^ 20 }
     ensures nodes { OnOk result (fit.new.nodes ≡ fit.old.nodes) }
     ensures count { OnOk result (length fit.new.arcs ≡ length fit.old.arcs + layout.kinds) }
-    ensures arcs { (sp : model_spine.Spine) (m : List ℤ) → IsJoined schema.now sp inv.now →
-        OnOk result (fit.new.arcs ≡ fit.old.arcs ++ state_shares
-        (inputs_of schema.now sp inv.now m) layout n state) }
+    ensures arcs { (sp : model_spine.Spine) (m : List ℤ) → IsJoined schema.now sp inv.now → OnOk result (fit.new.arcs ≡ fit.old.arcs ++ state_shares (inputs_of schema.now sp inv.now m) layout n state) }
 {
     for kind in 0..schema.kinds() {
         let name = ArcName::Share { state, kind };
@@ -105,9 +99,7 @@ fn push_shares(
     requires room { length fit.old.arcs + layout.states * layout.kinds ≤ 2 ^ 20 }
     ensures nodes { OnOk result (fit.new.nodes ≡ fit.old.nodes) }
     ensures count { OnOk result (length fit.new.arcs ≡ length fit.old.arcs + layout.states * layout.kinds) }
-    ensures arcs { (m : List ℤ) → OnOk result
-        (fit.new.arcs ≡ fit.old.arcs ++ all_shares (inputs_of schema.now spine.now inv.now m) layout
-        (units_at spine.now 1)) }
+    ensures arcs { (m : List ℤ) → OnOk result (fit.new.arcs ≡ fit.old.arcs ++ all_shares (inputs_of schema.now spine.now inv.now m) layout (units_at spine.now 1)) }
 {
     for (n, state) in spine.at_level(1).iter().enumerate() {
         push_state_shares(fit, schema, inv, layout, n as u32, *state)?;
@@ -131,10 +123,8 @@ fn push_nation_gives(
     requires nodes_limit { node_number layout ≤ 65536 }
     requires room { length fit.old.arcs + length (group_at tree.now.groups 0) ≤ 2 ^ 20 }
     ensures nodes { OnOk result (fit.new.nodes ≡ fit.old.nodes) }
-    ensures count { OnOk result (length fit.new.arcs
-        ≡ length fit.old.arcs + length (group_at tree.now.groups 0)) }
-    ensures arcs { OnOk result (fit.new.arcs
-        ≡ fit.old.arcs ++ nation_gives schema.now layout tree.now.groups nation) }
+    ensures count { OnOk result (length fit.new.arcs ≡ length fit.old.arcs + length (group_at tree.now.groups 0)) }
+    ensures arcs { OnOk result (fit.new.arcs ≡ fit.old.arcs ++ nation_gives schema.now layout tree.now.groups nation) }
 {
     let base = layout.first_group(0);
     for cell in tree.members(0) {
@@ -146,7 +136,6 @@ fn push_nation_gives(
 
 // The arcs of the nation's groups.
 fn push_nation_groups(
-    alloc: Global,
     fit: &mut NamedNet,
     schema: &Schema,
     spine: &Spine,
@@ -163,17 +152,12 @@ fn push_nation_groups(
     requires nodes_limit { node_number layout ≤ 65536 }
     requires room { length fit.old.arcs + length tree.now.groups ≤ 2 ^ 20 }
     ensures nodes { OnOk result (fit.new.nodes ≡ fit.old.nodes) }
-    ensures arcs { (inv : JoinedLists) →
-        OnOk result (fit.new.arcs ≡ fit.old.arcs ++ nation_groups
-        (inputs_of schema.now spine.now inv m.now) layout tree.now.groups (level_at schema.now 0)
-        (nation_of spine.now)) }
+    ensures arcs { (inv : JoinedLists) → OnOk result (fit.new.arcs ≡ fit.old.arcs ++ nation_groups (inputs_of schema.now spine.now inv m.now) layout tree.now.groups (level_at schema.now 0) (nation_of spine.now)) }
 {
     let base = layout.first_group(0);
     let nation = spine.nation();
-    let terms = level_terms(alloc, schema, 0, tree)?;
-    let first = unit_first(schema, spine, level_first(schema, spine, 0), nation);
     for group in 0..tree.len() {
-        push_group(fit, tree, &terms, m, first, base, nation, group, 0, PERSONS)?;
+        push_group(fit, schema, spine, tree, m, base, nation, group, 0, PERSONS)?;
     }
     Ok(())
 }
@@ -183,12 +167,10 @@ fn root_layout(schema: &Schema, tree: &GroupTree, spine: &Spine) -> Layout
     requires belong { IsWithinLimits schema.now spine.now }
     requires deep { 2 ≤ spine.now.depth }
     requires tree { IsTreeOf schema.now (level_at schema.now 0) tree.now }
-    ensures layout { (inv : JoinedLists) (m : List ℤ) →
-        result ≡ spec.root_layout (inputs_of schema.now spine.now inv m) tree.now.groups }
+    ensures layout { (inv : JoinedLists) (m : List ℤ) → result ≡ spec.root_layout (inputs_of schema.now spine.now inv m) tree.now.groups }
     ensures nodes { node_number result ≤ 65536 }
     ensures arcs { arc_number result ≤ 2 ^ 20 }
 {
-    // Tells how many cells there are at most.
     let _ = schema.cells();
     let states = spine.at_level(1).len() as u32;
     Layout {
@@ -203,7 +185,6 @@ fn root_layout(schema: &Schema, tree: &GroupTree, spine: &Spine) -> Layout
 
 // All arcs of the nation's fit, into a net that has none.
 fn push_root(
-    alloc: Global,
     fit: &mut NamedNet,
     schema: &Schema,
     tree: &GroupTree,
@@ -216,26 +197,21 @@ fn push_root(
     requires joined { IsJoined schema.now spine.now inv.now }
     requires measured { AreMeasurementsOf schema.now spine.now m.now }
     requires tree { IsTreeOf schema.now (level_at schema.now 0) tree.now }
-    requires layout { layout ≡ spec.root_layout
-        (inputs_of schema.now spine.now inv.now m.now) tree.now.groups }
+    requires layout { layout ≡ spec.root_layout (inputs_of schema.now spine.now inv.now m.now) tree.now.groups }
     requires nodes_limit { node_number layout ≤ 65536 }
     requires room { arc_number layout ≤ 2 ^ 20 }
     requires empty { fit.old ≡ record { nodes = node_number layout; arcs = [] } }
     ensures nodes { OnOk result (fit.new.nodes ≡ node_number layout) }
-    ensures arcs { OnOk result (fit.new.arcs
-        ≡ spec.root_arcs (inputs_of schema.now spine.now inv.now m.now) tree.now.groups) }
+    ensures arcs { OnOk result (fit.new.arcs ≡ spec.root_arcs (inputs_of schema.now spine.now inv.now m.now) tree.now.groups) }
 {
     push_totals(fit, spine, inv)?;
     push_shares(fit, schema, spine, inv, layout)?;
     push_nation_gives(fit, schema, tree, layout, spine.nation())?;
-    push_nation_groups(alloc, fit, schema, spine, tree, m, layout)
+    push_nation_groups(fit, schema, spine, tree, m, layout)
 }
 
 /// The network of the nation's fit: a table for the nation, with shares of each state and kind. The tree is that of
 /// the first level's groups.
-///
-/// It has at most 2^11 nodes and 2^16 arcs, and is made in time in proportion to its arcs. NoMemory is the only
-/// error.
 pub fn root_net(
     alloc: Global,
     schema: &Schema,
@@ -248,19 +224,14 @@ pub fn root_net(
     requires joined { IsJoined schema.now spine.now inv.now }
     requires measured { AreMeasurementsOf schema.now spine.now m.now }
     requires tree { IsTreeOf schema.now (level_at schema.now 0) tree.now }
-    ensures fit { IfOk result (λ f. f ≡ root_fit
-        (inputs_of schema.now spine.now inv.now m.now) tree.now.groups) }
+    ensures fit { IfOk result (λ f. f ≡ root_fit (inputs_of schema.now spine.now inv.now m.now) tree.now.groups) }
     ensures tables { OnOk result (RootAs (inputs_of schema.now spine.now inv.now m.now) tree.now.groups) }
-    ensures own_tables { IfOk result (λ f. IsRootNet
-        (inputs_of schema.now spine.now inv.now m.now) tree.now.groups (net_at f)) }
-    ensures size { IfOk result (λ f. size_of f ≡ fit_size schema.now spine.now None) }
 {
     let layout = root_layout(schema, tree, spine);
     let mut named = NamedNet::new(alloc, layout.nodes());
-    push_root(alloc, &mut named, schema, tree, spine, inv, m, layout)?;
+    push_root(&mut named, schema, tree, spine, inv, m, layout)?;
     let cells = tree.members(0).to_vec(alloc)?;
     let fit = FitNet::new(layout, named, cells, schema.cells());
-    // Tells that the net is sound.
     let _ = fit.net();
     Ok(fit)
 }

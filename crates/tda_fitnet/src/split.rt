@@ -1,9 +1,8 @@
 // The network of the split of a unit's table among its children.
-ghost use Rattle.std.specs.Prelude.{◌≡◌, ℕ, ◌+◌, ◌*◌, ◌<◌, ◌≤◌, ◌^◌, ◌++◌, [], ℤ, List, length, slice_index, All, IfOk, OnOk, Some};
+ghost use Rattle.std.specs.Prelude.{◌≡◌, ℕ, ◌+◌, ◌*◌, ◌<◌, ◌≤◌, ◌^◌, ◌++◌, [], ℤ, List, length, slice_index, All, IfOk, OnOk};
 ghost use Rattle.tda_model.specs.Bounds.{persons_limit};
 ghost use Rattle.tda_model.specs.Cells.{cell_count};
 ghost use Rattle.tda_model.specs.Release.{CanBe};
-ghost use Rattle.tda_model.specs.Sizes.{fit_size};
 ghost use Rattle.tda_model.specs.Spine.{IsUnit, level_of, children_of};
 ghost use Rattle.tda_model.specs.Tables.{persons_in};
 ghost use Rattle.tda_schema.specs.Stated.{level_at};
@@ -14,19 +13,16 @@ ghost use Rattle.tda_places.specs.Measurements.{AreMeasurementsOf};
 ghost use Rattle.tda_groups.specs.Order.{AreGroups, group_at};
 ghost use Rattle.tda_groups.specs.Tree.{IsTreeOf};
 ghost use Rattle.tda_fitnet.specs.Layout.{group_node, node_number, arc_number};
-ghost use Rattle.tda_fitnet.specs.TermTable.{AreTermsAt};
 ghost use Rattle.tda_fitnet.specs.Inputs.{inputs_of};
 ghost use Rattle.tda_fitnet.specs.Arcs as spec;
 ghost use Rattle.tda_fitnet.specs.Rows.{AreOrdered, count_arcs, child_gives, all_gives, child_groups, all_groups};
-ghost use Rattle.tda_fitnet.specs.Fits.{SplitsAs, IsSplitNet};
-ghost use Rattle.tda_fitnet.specs.FitNetwork.{net_at, size_of, split_fit};
+ghost use Rattle.tda_fitnet.specs.Fits.{SplitsAs};
+ghost use Rattle.tda_fitnet.specs.FitNetwork.{split_fit};
 
 use crate::arcs::{push_give, push_group, push_source};
 use crate::bounds::group_bounds;
-use crate::first_place::{level_first, unit_first};
 use crate::fit_net::FitNet;
 use crate::layout::Layout;
-use crate::level_terms::{LevelTerms, level_terms};
 use crate::named_net::NamedNet;
 use std::alloc::Global;
 use tda_groups::GroupTree;
@@ -66,10 +62,8 @@ fn push_child_gives(
     requires groups { AreGroups tree.now.groups }
     requires room { length fit.old.arcs + length (group_at tree.now.groups 0) ≤ 2 ^ 20 }
     ensures nodes { OnOk result (fit.new.nodes ≡ fit.old.nodes) }
-    ensures count { OnOk result (length fit.new.arcs
-        ≡ length fit.old.arcs + length (group_at tree.now.groups 0)) }
-    ensures arcs { (l : Layout) (u : ℕ) → base ≡ group_node l u 0 →
-        OnOk result (fit.new.arcs ≡ fit.old.arcs ++ child_gives l tree.now.groups u child) }
+    ensures count { OnOk result (length fit.new.arcs ≡ length fit.old.arcs + length (group_at tree.now.groups 0)) }
+    ensures arcs { (l : Layout) (u : ℕ) → base ≡ group_node l u 0 → OnOk result (fit.new.arcs ≡ fit.old.arcs ++ child_gives l tree.now.groups u child) }
 {
     for (r, cell) in tree.members(0).iter().enumerate() {
         push_give(fit, tree, 1 + r as u32, base, child, *cell)?;
@@ -94,8 +88,7 @@ fn push_gives(
     requires room { length fit.old.arcs + layout.units * layout.cells ≤ 2 ^ 20 }
     ensures nodes { OnOk result (fit.new.nodes ≡ fit.old.nodes) }
     ensures count { OnOk result (length fit.new.arcs ≡ length fit.old.arcs + layout.units * layout.cells) }
-    ensures arcs { OnOk result (fit.new.arcs
-        ≡ fit.old.arcs ++ all_gives layout tree.now.groups children.now) }
+    ensures arcs { OnOk result (fit.new.arcs ≡ fit.old.arcs ++ all_gives layout tree.now.groups children.now) }
 {
     for (u, child) in children.iter().enumerate() {
         push_child_gives(fit, tree, layout.first_group(u as u32), *child)?;
@@ -103,43 +96,40 @@ fn push_gives(
     Ok(())
 }
 
-// The arcs of a child's groups, which begin at node `base`. The child's places begin at index `first`.
+// The arcs of a child's groups, which begin at node `base`.
 fn push_child_groups(
     fit: &mut NamedNet,
     schema: &Schema,
     spine: &Spine,
     tree: &GroupTree,
     inv: &Invariants,
-    terms: &LevelTerms,
     m: &Measurements,
-    first: u64,
     base: u32,
     child: u32,
 ) -> Result<(), NoMemory>
+    requires belong { spine.now.depth ≡ length schema.now.levels }
     requires joined { IsJoined schema.now spine.now inv.now }
+    requires measured { AreMeasurementsOf schema.now spine.now m.now }
     requires child { IsUnit spine.now child }
-    requires ready { AreTermsAt schema.now spine.now tree.now terms.now m.now child first }
+    requires level { level_of spine.now child < length schema.now.levels }
+    requires tree { IsTreeOf schema.now (level_at schema.now (level_of spine.now child)) tree.now }
     requires order { AreOrdered (inputs_of schema.now spine.now inv.now m.now) tree.now.groups child }
     requires nodes { base + length tree.now.groups ≤ fit.old.nodes }
     requires nodes_limit { fit.old.nodes ≤ 65536 }
     requires room { length fit.old.arcs + length tree.now.groups ≤ 2 ^ 20 }
     ensures nodes { OnOk result (fit.new.nodes ≡ fit.old.nodes) }
     ensures count { OnOk result (length fit.new.arcs ≡ length fit.old.arcs + length tree.now.groups) }
-    ensures arcs { (l : Layout) (u : ℕ) → base ≡ group_node l u 0 →
-        OnOk result (fit.new.arcs ≡ fit.old.arcs ++ child_groups
-        (inputs_of schema.now spine.now inv.now m.now) l tree.now.groups
-        (level_at schema.now (level_of spine.now child)) u child) }
+    ensures arcs { (l : Layout) (u : ℕ) → base ≡ group_node l u 0 → OnOk result (fit.new.arcs ≡ fit.old.arcs ++ child_groups (inputs_of schema.now spine.now inv.now m.now) l tree.now.groups (level_at schema.now (level_of spine.now child)) u child) }
 {
     for group in 0..tree.len() {
         let (low, high) = group_bounds(schema, spine, tree, inv, child, group);
-        push_group(fit, tree, terms, m, first, base, child, group, low, high)?;
+        push_group(fit, schema, spine, tree, m, base, child, group, low, high)?;
     }
     Ok(())
 }
 
 // The arcs of the groups of each child of a unit.
 fn push_groups(
-    alloc: Global,
     fit: &mut NamedNet,
     schema: &Schema,
     spine: &Spine,
@@ -154,29 +144,18 @@ fn push_groups(
     requires measured { AreMeasurementsOf schema.now spine.now m.now }
     requires parent { IsInner spine.now parent }
     requires tree { IsTreeOf schema.now (level_at schema.now (level_of spine.now parent + 1)) tree.now }
-    requires order { All (AreOrdered (inputs_of schema.now spine.now inv.now m.now) tree.now.groups)
-        (children_of spine.now parent) }
+    requires order { All (AreOrdered (inputs_of schema.now spine.now inv.now m.now) tree.now.groups) (children_of spine.now parent) }
     requires units { layout.units ≡ length (children_of spine.now parent) }
     requires groups { layout.groups ≡ length tree.now.groups }
     requires nodes { fit.old.nodes ≡ node_number layout }
     requires nodes_limit { node_number layout ≤ 65536 }
     requires room { length fit.old.arcs + layout.units * layout.groups ≤ 2 ^ 20 }
     ensures nodes { OnOk result (fit.new.nodes ≡ fit.old.nodes) }
-    ensures arcs { OnOk result (fit.new.arcs
-        ≡ fit.old.arcs ++ all_groups (inputs_of schema.now spine.now inv.now m.now) layout tree.now.groups
-        (level_at schema.now (level_of spine.now parent + 1)) (children_of spine.now parent)) }
+    ensures arcs { OnOk result (fit.new.arcs ≡ fit.old.arcs ++ all_groups (inputs_of schema.now spine.now inv.now m.now) layout tree.now.groups (level_at schema.now (level_of spine.now parent + 1)) (children_of spine.now parent)) }
 {
-    // There are at most 7 levels.
-    let _ = schema.levels();
-    let level = spine.level(parent) + 1;
-    let terms = level_terms(alloc, schema, level, tree)?;
-    let earlier = level_first(schema, spine, level);
     for (u, child) in spine.children(parent).iter().enumerate() {
         let base = layout.first_group(u as u32);
-        let first = unit_first(schema, spine, earlier, *child);
-        push_child_groups(
-            fit, schema, spine, tree, inv, &terms, m, first, base, *child,
-        )?;
+        push_child_groups(fit, schema, spine, tree, inv, m, base, *child)?;
     }
     Ok(())
 }
@@ -186,12 +165,10 @@ fn split_layout(schema: &Schema, tree: &GroupTree, spine: &Spine, parent: u32) -
     requires belong { IsWithinLimits schema.now spine.now }
     requires parent { IsInner spine.now parent }
     requires tree { IsTreeOf schema.now (level_at schema.now (level_of spine.now parent + 1)) tree.now }
-    ensures layout { (inv : JoinedLists) (m : List ℤ) →
-        result ≡ spec.split_layout (inputs_of schema.now spine.now inv m) tree.now.groups parent }
+    ensures layout { (inv : JoinedLists) (m : List ℤ) → result ≡ spec.split_layout (inputs_of schema.now spine.now inv m) tree.now.groups parent }
     ensures nodes { node_number result ≤ 65536 }
     ensures arcs { arc_number result ≤ 2 ^ 20 }
 {
-    // Tells how many cells there are at most.
     let _ = schema.cells();
     let cells = tree.members(0).len() as u32;
     Layout {
@@ -206,7 +183,6 @@ fn split_layout(schema: &Schema, tree: &GroupTree, spine: &Spine, parent: u32) -
 
 // All arcs of a split, into a net that has none.
 fn push_split(
-    alloc: Global,
     fit: &mut NamedNet,
     schema: &Schema,
     tree: &GroupTree,
@@ -225,26 +201,20 @@ fn push_split(
     requires size { length table.now ≡ cell_count schema.now }
     requires can_be { CanBe (inputs_of schema.now spine.now inv.now m.now) parent (slice_index table.now) }
     requires few { persons_in schema.now (slice_index table.now) ≤ persons_limit }
-    requires layout { layout ≡ spec.split_layout
-        (inputs_of schema.now spine.now inv.now m.now) tree.now.groups parent }
+    requires layout { layout ≡ spec.split_layout (inputs_of schema.now spine.now inv.now m.now) tree.now.groups parent }
     requires nodes_limit { node_number layout ≤ 65536 }
     requires room { arc_number layout ≤ 2 ^ 20 }
     requires empty { fit.old ≡ record { nodes = node_number layout; arcs = [] } }
     ensures nodes { OnOk result (fit.new.nodes ≡ node_number layout) }
-    ensures arcs { OnOk result (fit.new.arcs
-        ≡ spec.split_arcs (inputs_of schema.now spine.now inv.now m.now) tree.now.groups parent
-        (slice_index table.now)) }
+    ensures arcs { OnOk result (fit.new.arcs ≡ spec.split_arcs (inputs_of schema.now spine.now inv.now m.now) tree.now.groups parent (slice_index table.now)) }
 {
     push_counts(fit, tree.members(0), table)?;
     push_gives(fit, tree, layout, spine.children(parent))?;
-    push_groups(alloc, fit, schema, spine, tree, inv, m, layout, parent)
+    push_groups(fit, schema, spine, tree, inv, m, layout, parent)
 }
 
 /// The network of the split of a unit's table among its children. The unit has children, and can have the table,
 /// which has a count for each cell and at most 2^30 persons. The tree is that of the groups of the children's level.
-///
-/// It has at most 2^11 nodes and 2^16 arcs, and is made in time in proportion to its arcs, beside one binary search
-/// for each child's place among the units of its level. NoMemory is the only error.
 pub fn split_net(
     alloc: Global,
     schema: &Schema,
@@ -263,23 +233,16 @@ pub fn split_net(
     requires size { length table.now ≡ cell_count schema.now }
     requires can_be { CanBe (inputs_of schema.now spine.now inv.now m.now) parent (slice_index table.now) }
     requires few { persons_in schema.now (slice_index table.now) ≤ persons_limit }
-    ensures fit { IfOk result (λ f. f ≡ split_fit
-        (inputs_of schema.now spine.now inv.now m.now) tree.now.groups parent (slice_index table.now)) }
-    ensures tables { OnOk result (SplitsAs
-        (inputs_of schema.now spine.now inv.now m.now) tree.now.groups parent (slice_index table.now)) }
-    ensures own_tables { IfOk result (λ f. IsSplitNet
-        (inputs_of schema.now spine.now inv.now m.now) tree.now.groups parent (slice_index table.now)
-        (net_at f)) }
-    ensures size { IfOk result (λ f. size_of f ≡ fit_size schema.now spine.now (Some parent)) }
+    ensures fit { IfOk result (λ f. f ≡ split_fit (inputs_of schema.now spine.now inv.now m.now) tree.now.groups parent (slice_index table.now)) }
+    ensures tables { OnOk result (SplitsAs (inputs_of schema.now spine.now inv.now m.now) tree.now.groups parent (slice_index table.now)) }
 {
     let layout = split_layout(schema, tree, spine, parent);
     let mut named = NamedNet::new(alloc, layout.nodes());
     push_split(
-        alloc, &mut named, schema, tree, spine, inv, m, layout, parent, table,
+        &mut named, schema, tree, spine, inv, m, layout, parent, table,
     )?;
     let cells = tree.members(0).to_vec(alloc)?;
     let fit = FitNet::new(layout, named, cells, schema.cells());
-    // Tells that the net is sound.
     let _ = fit.net();
     Ok(fit)
 }

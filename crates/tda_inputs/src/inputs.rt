@@ -147,7 +147,11 @@ fn read_measurements_file<I: Inbox>(
 }
 
 /// Reads and judges the schema, the spine, the facilities, the totals and the measurements, in this order.
-pub fn read_inputs<I: Inbox>(alloc: Global, words: &[String], inbox: &mut I) -> Result<Inputs, Stop>
+pub fn read_inputs<I: Inbox>(
+    alloc: Global,
+    words: &[String],
+    inbox: &mut I,
+) -> Result<Inputs, Stop>
     requires reads { ReadsInputs (map string_bytes words.now) }
     requires room { I.faults inbox.old < 2 ^ 64 - 1 }
     ensures inputs { GathersInputs (map string_bytes words.now) (I.told inbox.old) result }

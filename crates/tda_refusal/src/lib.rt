@@ -1,8 +1,6 @@
-//! The texts of faults and of verdicts: why a file isn't accepted, and what an audit found.
+//! The texts of faults: why a file isn't accepted.
 #![tactic(auto)]
 
 mod text;
-mod verdict;
 
-pub use text::{Named, Plain, push_named, push_plain};
-pub use verdict::push_verdict;
+pub use text::{kind_name, Named, Plain, push_named, push_plain};

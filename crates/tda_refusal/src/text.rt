@@ -73,7 +73,7 @@ fn push_name(out: &mut Vec<u8>, name: &str) -> Result<(), NoMemory>
 }
 
 // Appends a name and, after a space, a unit's code.
-pub(crate) fn push_coded(out: &mut Vec<u8>, name: &str, code: &str) -> Result<(), NoMemory>
+fn push_coded(out: &mut Vec<u8>, name: &str, code: &str) -> Result<(), NoMemory>
     ensures ok { OnOk result (out.new.items ≡ out.old.items ++ spec.coded name.now code.now) }
     ensures err { OnErr result (out.new.items ≡ out.old.items) }
 {
@@ -85,7 +85,7 @@ pub(crate) fn push_coded(out: &mut Vec<u8>, name: &str, code: &str) -> Result<()
 }
 
 // Appends a name and, after a space, a number.
-pub(crate) fn push_numbered(out: &mut Vec<u8>, name: &str, number: u64) -> Result<(), NoMemory>
+fn push_numbered(out: &mut Vec<u8>, name: &str, number: u64) -> Result<(), NoMemory>
     ensures ok { OnOk result (out.new.items ≡ out.old.items ++ spec.numbered name.now number) }
     ensures err { OnErr result (out.new.items ≡ out.old.items) }
 {
@@ -94,11 +94,7 @@ pub(crate) fn push_numbered(out: &mut Vec<u8>, name: &str, number: u64) -> Resul
 }
 
 // Keeps so many bytes alone where memory ran out.
-pub(crate) fn or_cut(
-    out: &mut Vec<u8>,
-    kept: usize,
-    pushed: Result<(), NoMemory>,
-) -> Result<(), NoMemory>
+fn or_cut(out: &mut Vec<u8>, kept: usize, pushed: Result<(), NoMemory>) -> Result<(), NoMemory>
     ensures same { result ≡ pushed }
     ensures ok { OnOk result (out.new.items ≡ out.old.items) }
     ensures err { OnErr result (out.new.items ≡ take kept out.old.items) }
@@ -255,8 +251,8 @@ fn push_prices(fault: PriFault, out: &mut Vec<u8>) -> Result<(), NoMemory>
     }
 }
 
-// The name of a kind of quarters.
-pub(crate) fn kind_name(schema: &Schema, kind: u16) -> &str
+/// The name of a kind of quarters: a value of the first attribute.
+pub fn kind_name(schema: &Schema, kind: u16) -> &str
     requires { kind < kind_count schema.now }
     ensures value { result.now ≡ spec.kind_name schema.now kind }
     ensures name { name_test 32 result.now ≡ true }

@@ -5,5 +5,4 @@ pub mod Folded
 pub mod PriceCounts
 pub mod Kept
 pub mod Written
-pub mod Certifying
 pub mod Releasing

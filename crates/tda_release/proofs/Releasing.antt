@@ -18,14 +18,12 @@ use Rattle.tda_fitnet.specs.Fits.{curve_of}
 use Rattle.tda_descent.specs.declared.fit.Fit.{Fit}
 use Rattle.tda_descent.specs.Fits.{units_of, IsFitOf, IsLeastAt, AreFirstFits}
 use Rattle.tda_descent.proofs.Totals.{units_once}
-use Rattle.tda_audit.specs.Answers.{YesTells}
-use Rattle.tda_release.specs.Certified.{IsCertifiedRelease, total_deviation}
+use Rattle.tda_release.specs.Certified.{total_deviation}
 use Rattle.tda_release.specs.Texts.{AreHeaders, AreTextsOf}
 use Rattle.tda_release.specs.declared.release.Texts.{Texts}
 use Rattle.tda_release.proofs.Squares.{curve_is_square}
 use Rattle.tda_release.proofs.Kept.{HasFits}
-use Rattle.tda_release.proofs.Written.{pricing, all_certified, texts_written}
-use Rattle.tda_release.proofs.Certifying.{certifies}
+use Rattle.tda_release.proofs.Written.{texts_written}
 
 -- ---- there are no more fits than units
 
@@ -136,13 +134,8 @@ module _ (i : Inputs) (sound : IsSound i.spine) (fits : List Fit) (first : AreFi
       let long = length-map (parents_of i.spine) Some in
       within (length fits) _ (omega (arith, all, long, few, sound.few)) le
 
-  pub texts_released : YesTells Square i → (old new : Texts) → AreHeaders old → HasFits i.schema i.spine old fits new → AreTextsOf i new
-  texts_released tells old new headers has =
+  pub texts_released : (old new : Texts) → AreHeaders old → HasFits i.schema i.spine old fits new → AreTextsOf i new
+  texts_released old new headers has =
       let total : sum_by (λ fit. fit.deviation) fits ≡ total_deviation i x =
       total_own ∙ ap (λ curve. sum_by (λ u. deviation_at curve i u (x u)) (unit_numbers i.spine)) curve_is_square in
-      let prices = pricing i sound.tree x fits order first.tables.1 in
-      let certified : IsCertifiedRelease i x prices = record {
-        release = subst (λ curve. IsRelease curve i x) curve_is_square released;
-        certified = certifies i sound.tree x prices released (all_certified i sound.tree x fits order first.tables.1) tells;
-      } in
-      texts_written i sound.tree x fits order first.tables.1 certified total (subst (λ n. n < 2 ^ 128) total small) old new headers has
+      texts_written i sound.tree x fits order first.tables.1 (subst (λ curve. IsRelease curve i x) curve_is_square released) total (subst (λ n. n < 2 ^ 128) total small) old new headers has

@@ -10,9 +10,11 @@ use Rattle.tda_model.specs.TablesText.{tables_header, tables_text}
 use Rattle.tda_model.specs.Deviation.{square}
 use Rattle.tda_model.specs.Release.{Inputs, IsRelease}
 use Rattle.tda_model.proofs.Sums.{Each}
+use Rattle.tda_schema.specs.Stated.{level_at}
 use Rattle.tda_spine.specs.Judged.{fits_of}
 use Rattle.tda_out.specs.Written.{units_text, rows_in}
 use Rattle.tda_out.proofs.WrittenRows.{make_up_file}
+use Rattle.tda_groups.specs.Tree.{Tree, IsTreeOf}
 use Rattle.tda_loss.specs.declared.Curve.TheVariants.{Square}
 use Rattle.tda_prices.specs.Items.{price_count, items_of, Pricing, prices_of}
 use Rattle.tda_prices.specs.Priced.{same_fit, before, price_in}
@@ -20,8 +22,8 @@ use Rattle.tda_prices.specs.PricesText.{header, all_prices, fit_text}
 use Rattle.tda_prices.proofs.PricedBack.{before_at, own_fit, fits_apart, priced_back}
 use Rattle.tda_prices.proofs.MadeUp.{made_up}
 use Rattle.tda_descent.specs.declared.fit.Fit.{Fit}
-use Rattle.tda_descent.specs.Fits.{units_of, fit_groups, IsFitOf, IsCertifiedAt}
-use Rattle.tda_release.specs.Certified.{IsCertifiedRelease, pricing_text, total_deviation}
+use Rattle.tda_descent.specs.Fits.{units_of, IsFitOf, IsCertifiedAt, level_below}
+use Rattle.tda_release.specs.Certified.{CertifiesAt, pricing_text, total_deviation}
 use Rattle.tda_release.specs.Texts.{most_sum, AreHeaders, AreTextsOf}
 use Rattle.tda_release.specs.declared.release.Texts.{Texts}
 use Rattle.tda_release.proofs.PriceCounts.{price_nodes}
@@ -114,13 +116,13 @@ module _ (i : Inputs) (tree : IsTree i.spine (nation_of i.spine)) (x : Tables) (
       (λ n l. subst (P (get_or (fits_of i.spine) n None)) (sym (own_prices n l)) (by_fit P all n l))
 
   abbrev Certifies : Option ℕ → List ℤ → Type 0
-  Certifies f ps = IsCertifiedAt Square i (fit_groups i f) x f ps
+  Certifies f ps = (t : Tree) → IsTreeOf i.schema (level_at i.schema (level_below i.spine f)) t → IsCertifiedAt Square i t.groups x f ps
 
   each_certified : (fs : List Fit) → Each (IsFitOf Square i x) fs → Each (λ fit. Certifies fit.parent fit.prices.items) fs
   each_certified [] h = tt
   each_certified (f ∷ fs) h = (h.0.certified, each_certified fs h.1)
 
-  pub all_certified : All (λ f. IsCertifiedAt Square i (fit_groups i f) x f (prices_of i.schema i.spine pricing f)) (fits_of i.spine)
+  pub all_certified : All (CertifiesAt i x pricing) (fits_of i.spine)
   all_certified = each_priced Certifies (each_certified fits handed)
 
   -- the rows of prices, fit by fit
@@ -153,11 +155,11 @@ module _ (i : Inputs) (tree : IsTree i.spine (nation_of i.spine)) (x : Tables) (
   most_alone : (n : ℕ) → n < 2 ^ 128 → most_sum 0 n ≡ n
   most_alone n l = omega arith
 
-  pub texts_written : IsCertifiedRelease i x pricing → sum_by (λ fit. fit.deviation) fits ≡ total_deviation i x → total_deviation i x < 2 ^ 128 → (old new : Texts) → AreHeaders old → HasFits i.schema i.spine old fits new → AreTextsOf i new
-  texts_written certified total small old new headers has = record {
+  pub texts_written : IsRelease square i x → sum_by (λ fit. fit.deviation) fits ≡ total_deviation i x → total_deviation i x < 2 ^ 128 → (old new : Texts) → AreHeaders old → HasFits i.schema i.spine old fits new → AreTextsOf i new
+  texts_written release total small old new headers has = record {
     tables = x;
     price = pricing;
-    certified = certified;
+    certified = record { release = release; certified = all_certified };
     tables_are = has.tables ∙ ap (λ t. t ++ flat_map (fit_rows i.schema i.spine) fits) headers.tables ∙ tables_written;
     prices_are = has.prices ∙ ap (λ t. t ++ flat_map (fit_price_rows i.schema i.spine) fits) headers.prices ∙ prices_written;
     deviation = has.deviation headers.deviation ∙ ap (most_sum 0) total ∙ most_alone (total_deviation i x) small;

@@ -99,10 +99,8 @@ pub fn release_texts(
     let mut solver = new_solver(alloc, schema, spine)?;
     let loss = Loss::new(Curve::Square, square);
     let mut texts = Texts::new(alloc)?;
-    // The units are a tree, each level's queries are known, and the common denominator is small.
+    // The units are a tree.
     let _ = spine.units();
-    let _ = schema.levels();
-    let _ = schema.common();
     let fitted = descend(
         alloc,
         schema,

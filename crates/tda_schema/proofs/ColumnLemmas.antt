@@ -10,7 +10,7 @@ use Rattle.tda_model.specs.Cells.{cells_in, values_in, cell_count, value_at, all
 use Rattle.tda_sets.proofs.Ranges.{map_range_agree}
 use Rattle.tda_schema.specs.Columns.{column_of, columns_of}
 use Rattle.tda_schema.specs.Readers.{values_of, IsWithinLimits}
-use Rattle.tda_document.proofs.CellsIn.{IsNext, some_cell, more_cells}
+use Rattle.tda_schema.proofs.CellsIn.{IsNext, some_cell, more_cells}
 
 value_of : (attributes : List Attribute) (cell i : ℕ) (d : Attribute) → i < length attributes
     → get_or (values_in attributes cell) i 0 ≡ cell / cells_in (drop (suc i) attributes) % length (get_or attributes i d).values

@@ -4,9 +4,9 @@ use Rattle.std.specs.List.{list_all}
 use Rattle.std.specs.Option.{option_map_or}
 use Rattle.std.specs.Str.{bytes_eq}
 use Rattle.tda_model.specs.Schema.{Attribute}
-use Rattle.tda_document.specs.Raw.{RawListed}
-use Rattle.tda_document.specs.Sizes.{attribute_named}
-use Rattle.tda_document.specs.Known.{is_value, is_attribute, listed_is_known}
+use Rattle.tda_schema.specs.Raw.{RawListed}
+use Rattle.tda_schema.specs.Sizes.{attribute_named}
+use Rattle.tda_schema.specs.Known.{is_value, is_attribute, listed_is_known}
 use Rattle.tda_schema.specs.Stating.{attribute_number}
 use Rattle.tda_schema.proofs.Finding.{found_there}
 

@@ -17,7 +17,7 @@ use Rattle.tda_schema.specs.Levels.{family_count, family_level, level_parted, le
 use Rattle.tda_schema.specs.Parts.{QueryParts, LevelParts, query_parts, place_count, level_parts, ArePartsOf, level_is_nested, is_nested, has_kinds}
 use Rattle.tda_schema.specs.Read as spec
 use Rattle.tda_schema.specs.Readers.{IsWithinLimits}
-use Rattle.tda_document.specs.Sizes.{attribute_has_size}
+use Rattle.tda_schema.specs.Sizes.{attribute_has_size}
 use Rattle.tda_schema.specs.Stated.{IsLookedUp, IsLevelOf, IsQueryOf}
 use Rattle.tda_schema.proofs.ClassFamilies.{parts_are}
 use Rattle.tda_schema.proofs.LevelGroups.{group_count_is}

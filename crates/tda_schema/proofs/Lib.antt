@@ -1,7 +1,12 @@
 pub mod CellOf
+pub mod CellsIn
 pub mod Positions
+pub mod Each
+pub mod KeyLemmas
 pub mod Documents
+pub mod DistinctLemmas
 pub mod TextLemmas
+pub mod OriginLemmas
 pub mod Finding
 pub mod KnownLemmas
 pub mod LookedUp

@@ -9,16 +9,16 @@ use Rattle.std.proofs.lemmas.List.Elements.{All-map, All-weaker}
 use Rattle.std.proofs.lemmas.List.Sums.{AllPass-from_list_all}
 use Rattle.tda_model.specs.Schema.{Attribute, Attribute_values, Recode_labels, Schema}
 use Rattle.tda_model.specs.Cells.{cells_in}
-use Rattle.tda_document.specs.Raw.{RawRecode, RawListed, RawQuery, RawLevel, RawSchema}
-use Rattle.tda_document.specs.Origins.{origins_of}
-use Rattle.tda_document.specs.Names.{is_name, attribute_has_names, query_has_name, level_has_names, has_names, are_distinct, attribute_is_distinct, level_is_distinct, is_distinct}
-use Rattle.tda_document.specs.Sizes.{is_within, attribute_has_size, level_has_size, recode_has_size, has_sizes}
-use Rattle.tda_document.specs.Known.{is_attribute, is_recode, is_value, recode_is_known, listed_is_known, row_is_known, entry_is_known, query_is_known, level_is_known, knows_names}
+use Rattle.tda_schema.specs.Raw.{RawRecode, RawListed, RawQuery, RawLevel, RawSchema}
+use Rattle.tda_schema.specs.Origins.{origins_of}
+use Rattle.tda_schema.specs.Names.{is_name, attribute_has_names, query_has_name, level_has_names, has_names, are_distinct, attribute_is_distinct, level_is_distinct, is_distinct}
+use Rattle.tda_schema.specs.Sizes.{is_within, attribute_has_size, level_has_size, recode_has_size, has_sizes}
+use Rattle.tda_schema.specs.Known.{is_attribute, is_recode, is_value, recode_is_known, listed_is_known, row_is_known, entry_is_known, query_is_known, level_is_known, knows_names}
 use Rattle.tda_schema.specs.Readers.{values_of, IsWithinLimits, IsNamed}
 use Rattle.tda_schema.specs.Stated.{IsListedOf, IsRecodeOf, IsEntryOf, IsQueryOf, IsLevelOf, IsLookedUp}
 use Rattle.tda_schema.specs.Stating.{attribute_number, recode_number, value_number, recode_stated, listed_stated, row_stated, entry_stated, query_stated, level_stated, stated}
 use Rattle.tda_schema.proofs.Finding.{within, found_there, one_found}
-use Rattle.tda_document.proofs.DistinctLemmas.{map-map}
+use Rattle.tda_schema.proofs.DistinctLemmas.{map-map}
 use Rattle.tda_schema.proofs.KnownLemmas.{names}
 
 -- each passes a test, so each has what the test shows

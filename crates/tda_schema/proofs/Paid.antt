@@ -7,7 +7,7 @@ use Rattle.std.proofs.lemmas.List.Elements.{All-map}
 use Rattle.tda_frac.specs.Fraction as frac
 use Rattle.tda_model.specs.Schema.{Fraction, Schema}
 use Rattle.tda_schema.specs.Lowest.{fraction_in}
-use Rattle.tda_document.specs.Raw.{RawLevel, RawSchema}
+use Rattle.tda_schema.specs.Raw.{RawLevel, RawSchema}
 use Rattle.tda_schema.specs.Stated.{fraction_of}
 use Rattle.tda_schema.specs.Stating.{query_stated, level_stated, stated}
 use Rattle.tda_schema.specs.Shares.{is_total, is_share, text_passes, query_is_paid, level_is_paid, is_paid, fraction_stated, IsShare, QueriesArePaid, IsPaid}

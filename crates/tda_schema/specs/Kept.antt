@@ -2,7 +2,7 @@
 use Rattle.std.specs.Prelude.{◌≡◌, ◌<◌, ◌≤◌, ℕ, length, true}
 use Rattle.std.specs.Int.{◌∣◌}
 use Rattle.tda_model.specs.Schema.{Query, Schema}
-use Rattle.tda_document.specs.Names.{is_name}
+use Rattle.tda_schema.specs.Names.{is_name}
 use Rattle.tda_schema.specs.Stated.{queries_at, query_at}
 use Rattle.tda_schema.specs.Shares.{IsShare, common_of, denominator_limit}
 

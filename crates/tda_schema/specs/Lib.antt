@@ -1,5 +1,12 @@
 pub mod Stated
 pub mod Readers
+pub mod Raw
+pub mod Keys
+pub mod Typed
+pub mod Origins
+pub mod Names
+pub mod Sizes
+pub mod Known
 pub mod Lowest
 pub mod Shares
 pub mod Stating
@@ -11,4 +18,3 @@ pub mod Columns
 pub mod Classes
 pub mod Digits
 pub mod Levels
-pub mod DocumentFaults

@@ -1,5 +1,5 @@
 -- Greatest common divisors, lowest terms, and the fraction whose text bytes are.
-use Rattle.std.specs.Prelude.{ℕ, suc, ◌+◌, ◌/◌, ◌^◌, ◌==◌, ◌&&◌, max, Bool, List, filter, fold, Option, Some, None, option_map, nat_lt, if◌then◌else◌}
+use Rattle.std.specs.Prelude.{ℕ, suc, ◌+◌, ◌*◌, ◌/◌, ◌%◌, ◌^◌, ◌==◌, ◌&&◌, max, Bool, List, filter, fold, Option, Some, None, option_map, nat_lt, if◌then◌else◌}
 use Rattle.std.specs.Fmt.{decimal}
 use Rattle.std.specs.List.{list_any, before_first, after_first, range_with_len}
 use Rattle.std.specs.Str.{bytes_eq}

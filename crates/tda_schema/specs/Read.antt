@@ -6,14 +6,14 @@ use Rattle.toml.specs.Parse.{parse_document}
 use Rattle.tda_io.specs.Due.{◌>>=◌, fault_if}
 use Rattle.tda_model.specs.Schema.{Schema}
 use Rattle.tda_schema.specs.declared.fault.SchemaFault.{SchemaFault}
-use Rattle.tda_schema.specs.declared.fault.SchemaFault.TheVariants.{BadToml, BadName, Repeated, BadSize, UnknownName, BadShare, Denominator, OverTotal, NotNested, KindWithoutCell}
-use Rattle.tda_document.specs.Raw.{RawSchema}
-use Rattle.tda_document.specs.Document.{written}
-use Rattle.tda_schema.specs.DocumentFaults.{retold}
-use Rattle.tda_document.specs.Typed.{found}
-use Rattle.tda_document.specs.Names.{has_names, is_distinct}
-use Rattle.tda_document.specs.Sizes.{has_sizes}
-use Rattle.tda_document.specs.Known.{knows_names}
+use Rattle.tda_schema.specs.declared.fault.SchemaFault.TheVariants.{BadToml, UnknownKey, MissingKey, BadName, Repeated, BadSize, UnknownName, BadShare, Denominator, OverTotal, NotNested, KindWithoutCell}
+use Rattle.tda_schema.specs.declared.keys.KeyTest.TheVariants.{Known, Complete}
+use Rattle.tda_schema.specs.Raw.{RawSchema}
+use Rattle.tda_schema.specs.Keys.{document_passes}
+use Rattle.tda_schema.specs.Typed.{found, typed}
+use Rattle.tda_schema.specs.Names.{has_names, is_distinct}
+use Rattle.tda_schema.specs.Sizes.{has_sizes}
+use Rattle.tda_schema.specs.Known.{knows_names}
 use Rattle.tda_schema.specs.Shares.{is_paid, has_denominators, is_within_total}
 use Rattle.tda_schema.specs.Stating.{stated}
 use Rattle.tda_schema.specs.Parts.{Parts, parts_of, is_nested, has_kinds}
@@ -22,9 +22,12 @@ use Rattle.tda_schema.specs.Parts.{Parts, parts_of, is_nested, has_kinds}
 abbrev pub document_of : List ℕ → Option Members
 document_of bytes = if is_utf8 bytes then parse_document bytes else None
 
--- a document as a written schema, or its fault as the schema's
+-- a document as a written schema: its keys, and the types of its values
 abbrev pub raw_of : Members → Result RawSchema SchemaFault
-raw_of document = retold (written document)
+raw_of document = do
+  _ ← fault_if (not (document_passes Known document)) UnknownKey
+  _ ← fault_if (not (document_passes Complete document)) MissingKey
+  typed document
 
 -- a written schema with its names looked up
 abbrev pub looked_up : RawSchema → Result Schema SchemaFault

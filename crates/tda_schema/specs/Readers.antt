@@ -3,7 +3,7 @@ use Rattle.std.specs.Prelude.{◌≡◌, ℕ, ◌≤◌, true, List, [], length,
 use Rattle.std.specs.List.{AllPass}
 use Rattle.tda_model.specs.Schema.{Schema}
 use Rattle.tda_model.specs.Cells.{cell_count}
-use Rattle.tda_document.specs.Names.{is_name, are_distinct, attribute_is_distinct}
+use Rattle.tda_schema.specs.Names.{is_name, are_distinct, attribute_is_distinct}
 
 -- the values of an attribute, by its number
 abbrev pub values_of : Schema → ℕ → List (List ℕ)

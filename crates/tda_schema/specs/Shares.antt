@@ -5,7 +5,7 @@ use Rattle.std.specs.List.{list_all}
 use Rattle.std.specs.Option.{option_map_or}
 use Rattle.tda_frac.specs.Fraction as frac
 use Rattle.tda_model.specs.Schema.{Fraction, Query, Level, Schema}
-use Rattle.tda_document.specs.Raw.{RawQuery, RawLevel, RawSchema}
+use Rattle.tda_schema.specs.Raw.{RawQuery, RawLevel, RawSchema}
 use Rattle.tda_schema.specs.Stated.{fraction_of}
 use Rattle.tda_schema.specs.Lowest.{lowest, fraction_in}
 pub use Rattle.tda_model.specs.Commons.{queries_in, queries_of, common_after, common_of}

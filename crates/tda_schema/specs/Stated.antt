@@ -4,7 +4,7 @@ use Rattle.std.specs.List.{AllPass}
 use Rattle.tda_frac.specs.Fraction as frac
 use Rattle.tda_model.specs.Schema.{Fraction, Recode, Listed, Entry, Attribute_values, Recode_labels, Query, Level, Schema}
 use Rattle.tda_model.specs.Groups.{class_cells}
-use Rattle.tda_document.specs.Names.{is_name}
+use Rattle.tda_schema.specs.Names.{is_name}
 use Rattle.tda_schema.specs.Readers.{values_of, IsWithinLimits, IsNamed}
 use Rattle.tda_schema.specs.declared.stated.Entry as declared
 use Rattle.tda_schema.specs.declared.stated.Entry.TheVariants as entry

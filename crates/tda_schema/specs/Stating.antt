@@ -4,9 +4,9 @@ use Rattle.std.specs.List.{position_or_len}
 use Rattle.std.specs.Option.{option_map_or}
 use Rattle.std.specs.Str.{bytes_eq}
 use Rattle.tda_model.specs.Schema.{Attribute, Recode, Listed, Entry, Attribute_values, Recode_labels, Query, Level, Schema}
-use Rattle.tda_document.specs.Raw.{RawRecode, RawListed, RawQuery, RawLevel, RawSchema}
-use Rattle.tda_document.specs.Sizes.{attribute_named}
-use Rattle.tda_document.specs.Known.{is_attribute}
+use Rattle.tda_schema.specs.Raw.{RawRecode, RawListed, RawQuery, RawLevel, RawSchema}
+use Rattle.tda_schema.specs.Sizes.{attribute_named}
+use Rattle.tda_schema.specs.Known.{is_attribute}
 use Rattle.tda_schema.specs.Shares.{fraction_stated}
 
 -- the number of the first attribute, recode or value of a name

@@ -2,7 +2,7 @@
 ghost use Rattle.std.specs.Prelude.{◌≡◌, ◌<◌, ◌≤◌, ◌/◌, ◌%◌, ◌^◌, true, [], length, map, slice_index_or, IfOk, IsTrue};
 ghost use Rattle.std.specs.List.{list_all, range_with_len};
 ghost use Rattle.tda_model.specs.Cells.{cells_in};
-ghost use Rattle.tda_document.specs.Sizes.{attribute_has_size};
+ghost use Rattle.tda_schema.specs.Sizes.{attribute_has_size};
 ghost use Rattle.tda_schema.specs.Columns.{columns_of};
 
 use crate::stated::Attribute;

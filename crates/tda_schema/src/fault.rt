@@ -1,10 +1,8 @@
 // Why a text is no schema.
 ghost use Rattle.std.specs.Prelude.{◌≡◌};
-ghost use Rattle.tda_schema.specs.DocumentFaults.{fault_of};
 ghost use Rattle.tda_schema.specs.declared.fault.SchemaFault.TheVariants.{NoMemory};
 
 use std::alloc::{AllocError, AllocFailed};
-use tda_document::DocumentFault;
 use tda_io::NoMemory as OutOfMemory;
 use thiserror::Error;
 
@@ -80,18 +78,5 @@ impl From<OutOfMemory> for SchemaFault {
 
     fn from(_: OutOfMemory) -> Self {
         SchemaFault::NoMemory
-    }
-}
-
-impl From<DocumentFault> for SchemaFault {
-    ghost from_gives = { λ f e. e ≡ fault_of f };
-
-    fn from(fault: DocumentFault) -> Self {
-        match fault {
-            DocumentFault::UnknownKey => SchemaFault::UnknownKey,
-            DocumentFault::MissingKey => SchemaFault::MissingKey,
-            DocumentFault::WrongType => SchemaFault::WrongType,
-            DocumentFault::NoMemory => SchemaFault::NoMemory,
-        }
     }
 }

@@ -5,17 +5,25 @@
 mod cells;
 mod classes;
 mod columns;
+mod distinct;
 mod fault;
 mod finish;
 mod groups;
+mod keys;
 mod kinds;
+mod known;
+mod names;
+mod origins;
 mod parts;
+mod raw;
 mod reader;
 mod readers;
 mod shares;
+mod sizes;
 mod stated;
 mod stating;
 mod texts;
+mod typed;
 mod values;
 
 pub use fault::SchemaFault;

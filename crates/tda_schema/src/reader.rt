@@ -4,20 +4,26 @@ ghost use Rattle.toml.specs.View.{table_view};
 ghost use Rattle.tda_io.specs.Due.{Gives};
 ghost use Rattle.tda_model.specs.Schema as model;
 ghost use Rattle.tda_schema.specs.declared.fault.SchemaFault.TheVariants.{BadToml};
-ghost use Rattle.tda_document.specs.Typed.{found};
+ghost use Rattle.tda_schema.specs.Typed.{found};
 ghost use Rattle.tda_schema.specs.Stated.{IsLookedUp};
 ghost use Rattle.tda_schema.specs.Shares.{IsPaid};
 ghost use Rattle.tda_schema.specs.Parts.{AreDecided};
 ghost use Rattle.tda_schema.specs.Read as spec;
 
+use crate::distinct::is_distinct;
 use crate::finish::parts_of;
+use crate::keys::{KeyTest, document_passes};
+use crate::known::knows_names;
+use crate::names::has_names;
+use crate::raw::RawSchema;
 use crate::shares::{common, is_paid, spent};
+use crate::sizes::has_sizes;
 use crate::stated::Stated;
 use crate::stating::stated;
+use crate::typed::typed;
 use crate::values::values_by_text;
 use crate::{Schema, SchemaFault};
 use std::alloc::Global;
-use tda_document::{RawSchema, has_names, has_sizes, is_distinct, knows_names, written};
 use toml::Table;
 
 // The document that the bytes hold.
@@ -40,7 +46,13 @@ fn document_of(alloc: Global, bytes: &[u8]) -> Result<Table, SchemaFault>
 fn raw_of(alloc: Global, document: &Table) -> Result<RawSchema<'_>, SchemaFault>
     ensures { Gives SchemaFault.NoMemory (λ s. s) result (spec.raw_of (table_view document.now)) }
 {
-    Ok(written(alloc, document)?)
+    if !document_passes(KeyTest::Known, document) {
+        return Err(SchemaFault::UnknownKey);
+    }
+    if !document_passes(KeyTest::Complete, document) {
+        return Err(SchemaFault::MissingKey);
+    }
+    typed(alloc, document)
 }
 
 // A written schema with its names looked up.

@@ -9,7 +9,7 @@ ghost use Rattle.tda_model.specs.Sizes.{groups_at, places_at};
 ghost use Rattle.tda_model.specs.Bounds.{HasKinds};
 ghost use Rattle.tda_model.specs.Deviation.{weight_of};
 ghost use Rattle.tda_io.specs.Texts.{name_test};
-ghost use Rattle.tda_document.specs.Names.{is_name, are_distinct};
+ghost use Rattle.tda_schema.specs.Names.{is_name, are_distinct};
 ghost use Rattle.tda_schema.specs.Readers.{values_of, IsWithinLimits};
 ghost use Rattle.tda_schema.specs.Parts.{level_parts, query_parts, ArePartsOf};
 ghost use Rattle.tda_schema.specs.Shares.{common_of, spent_of, frac_of, queries_of, IsLeastCommon};

@@ -7,8 +7,8 @@ ghost use Rattle.tda_schema.specs.Lowest as lowest;
 ghost use Rattle.tda_schema.specs.Shares as spec;
 ghost use Rattle.tda_schema.specs.Stated.{fraction_of, IsLookedUp};
 
+use crate::raw::{RawLevel, RawQuery, RawSchema};
 use crate::stated::{Level, Query, Stated};
-use tda_document::{RawLevel, RawQuery, RawSchema};
 use tda_frac::{Frac, lcm};
 
 // The most that a share or the total may be.

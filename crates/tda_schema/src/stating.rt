@@ -2,17 +2,17 @@
 ghost use Rattle.std.specs.Prelude.{◌≡◌, map, position, string_bytes, IfOk, IsTrue};
 ghost use Rattle.std.specs.List.{list_all};
 ghost use Rattle.std.specs.Str.{bytes_eq};
-ghost use Rattle.tda_document.specs.Known as known;
-ghost use Rattle.tda_document.specs.Names as names;
+ghost use Rattle.tda_schema.specs.Known as known;
+ghost use Rattle.tda_schema.specs.Names as names;
 ghost use Rattle.tda_schema.specs.Shares as shares;
-ghost use Rattle.tda_document.specs.Sizes as sizes;
+ghost use Rattle.tda_schema.specs.Sizes as sizes;
 ghost use Rattle.tda_schema.specs.Stated.{entry_of, IsLookedUp};
 ghost use Rattle.tda_schema.specs.Stating as spec;
 
+use crate::raw::{RawAttribute, RawLevel, RawListed, RawQuery, RawRecode, RawSchema};
 use crate::shares::fraction_in;
 use crate::stated::{Attribute, Entry, Level, Listed, Query, Recode, Stated};
 use std::alloc::Global;
-use tda_document::{RawAttribute, RawLevel, RawListed, RawQuery, RawRecode, RawSchema};
 use tda_io::NoMemory;
 
 /// The texts as texts of their own.

@@ -1,7 +1,7 @@
 // The values of attributes by their texts.
 ghost use Rattle.std.specs.Prelude.{◌≡◌, IfOk, map, string_bytes, true};
 ghost use Rattle.std.specs.List.{AllPass};
-ghost use Rattle.tda_document.specs.Names.{are_distinct, attribute_is_distinct};
+ghost use Rattle.tda_schema.specs.Names.{are_distinct, attribute_is_distinct};
 
 use crate::Texts;
 use crate::stated::Attribute;

@@ -2,6 +2,7 @@
 #![tactic(auto)]
 
 mod answer;
+mod audit;
 mod draw;
 mod fit;
 mod measured;
@@ -10,5 +11,6 @@ mod prepare;
 mod publish;
 mod run;
 mod top;
+mod verdict;
 
 pub use top::tool;

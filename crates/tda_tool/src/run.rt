@@ -116,13 +116,7 @@ fn done(alloc: Global, counted: Counted, drawn: Drawn) -> Result<Answer, NoMemor
         &inputs.invariants,
         &inputs.measurements,
     )?;
-    let report = line(
-        alloc,
-        &inputs.schema,
-        &inputs.spine,
-        drawn.taken,
-        texts.deviation,
-    )?;
+    let report = line(alloc, &inputs.schema, &inputs.spine, drawn.taken, texts.deviation)?;
     outputs.push(Output::new("tables", texts.tables))?;
     outputs.push(Output::new("prices", texts.prices))?;
     Ok(Answer {

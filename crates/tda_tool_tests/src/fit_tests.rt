@@ -174,8 +174,7 @@ fn many_persons_move_at_once(rt: HostRuntime) -> Result<(), Fail> {
         measured.as_str(),
     ];
     let shown = ran(rt.alloc(), FIT, texts, 0, 0)?;
-    let want =
-        "0|t=unit,cell,count\nUS,0,1073741824\nS1,0,1073741824\nB64,0,1073741824\n|p|-=ok fit fits=3 deviation=0\n";
+    let want = "0|t=unit,cell,count\nUS,0,1073741824\nS1,0,1073741824\nB64,0,1073741824\n|p|-=ok fit fits=3 deviation=0\n";
     assert_eq!(rt; shown.as_str(), want);
     Ok(())
 }

@@ -48,9 +48,7 @@ const RELEASE: &str =
 fn run_releases_what_it_measures(rt: HostRuntime) -> Result<(), Fail> {
     let shown = ran(rt.alloc(), RECORDS, &ONES, 0, 0)?;
     let alloc = rt.alloc();
-    let want = format!(in alloc;
-        "0|{RELEASE}|-=ok run places=2 spent=1/1 words=12 fits=3 deviation=2\n"
-    )?;
+    let want = format!(in alloc; "0|{RELEASE}|-=ok run places=2 spent=1/1 words=12 fits=3 deviation=2\n")?;
     assert!(rt; shown.as_str() == want.as_str());
     Ok(())
 }
@@ -58,7 +56,8 @@ fn run_releases_what_it_measures(rt: HostRuntime) -> Result<(), Fail> {
 #[test]
 fn nobody_is_released_where_nobody_lives(rt: HostRuntime) -> Result<(), Fail> {
     let shown = ran(rt.alloc(), "block,kind\n", &MINUS_ONES, 0, 0)?;
-    assert_eq!(rt;
+    assert_eq!(
+        rt;
         shown.as_str(),
         "0|m=unit,query,class,value\nB1,total,0,-1\nB2,total,0,-1\n|t=state,total\nS1,0\n|l=level,query,share\nblock,total,1/1\n-,spent,1/1\n-,total,1/1\n|x=unit,cell,count\n|p|-=ok run places=2 spent=1/1 words=12 fits=3 deviation=2\n"
     );
@@ -116,21 +115,12 @@ fn each_failing_write_of_run_leaves_the_first_outputs(rt: HostRuntime) -> Result
         let shown = ran(rt.alloc(), RECORDS, &ONES, 0, write)?;
         let with_report = shown.as_str().strip_prefix(all.as_str());
         match with_report {
-            Some(report) => assert!(rt;
-                write >= 14 && (report.is_empty() || write > 16),
-                "at {write}"
-            ),
-            None => assert!(rt;
-                write < 14 && all.as_str().starts_with(shown.as_str()),
-                "at {write}"
-            ),
+            Some(report) => assert!(rt; write >= 14 && (report.is_empty() || write > 16), "at {write}"),
+            None => assert!(rt; write < 14 && all.as_str().starts_with(shown.as_str()), "at {write}"),
         }
     }
     let third = ran(rt.alloc(), RECORDS, &ONES, 0, 3)?;
-    assert_eq!(rt;
-        third.as_str(),
-        "5|m=unit,query,class,value\nB1,total,0,3\nB2,total,0,4\n"
-    );
+    assert_eq!(rt; third.as_str(), "5|m=unit,query,class,value\nB1,total,0,3\nB2,total,0,4\n");
     Ok(())
 }
 

@@ -10,7 +10,7 @@ use Rattle.tda_places.specs.Places.{place}
 use Rattle.tda_places.specs.Measurements.{measured_at}
 use Rattle.tda_flow.specs.declared.net.Term.{Term}
 use Rattle.tda_fitnet.proofs.FirstKind.{first_is_possible}
-use Rattle.tda_audit.proofs.TermStep.{known, is_place, own_group}
+use Rattle.tda_fitnet.proofs.TermStep.{known, is_place, own_group}
 use Rattle.tda_audit.proofs.terms.query_term.Goals as goal
 
 pub class_of-class-requires-clause-possible : goal.class_of-class-requires-clause-possible

@@ -17,29 +17,26 @@ use Rattle.tda_fitnet.proofs.arcs.push_group.Goals as goal
 from_is : (l : Layout) (u base g : ℕ) → base ≡ group_node l u 0 → base + g ≡ group_node l u g
 from_is l u base g e = omega arith
 
-pub push_terms-requires-clause-ready : goal.push_terms-requires-clause-ready
-push_terms-requires-clause-ready c = (c.requires.ready.0, c.requires.ready.1, c.args.tree.now, c.args.unit, c.requires.ready.2, c.requires.group)
-
 pub returns-clause-nodes : goal.returns-clause-nodes
 returns-clause-nodes c =
-    let (s, sp, ready) = c.requires.ready in
     on_ok_weaker c.push_terms.result (λ e. ap (λ n. n.nodes) e ∙ ap (λ n. n.nodes) c.in_ok-push.ensures)
-    (c.push_terms.ensures s sp c.args.tree.now c.args.unit ready c.requires.group no_lists c.args.fit.now.arcs _ (ap (λ n. n.arcs) c.in_ok-push.ensures))
+    (c.push_terms.ensures no_lists c.args.fit.now.arcs _ (ap (λ n. n.arcs) c.in_ok-push.ensures))
 
 pub returns-clause-count : goal.returns-clause-count
 returns-clause-count c =
-    let (s, sp, ready) = c.requires.ready in
     on_ok_weaker c.push_terms.result (λ e. ap (λ n. length n.arcs) e ∙ length-append c.args.fit.now.arcs _)
-    (c.push_terms.ensures s sp c.args.tree.now c.args.unit ready c.requires.group no_lists c.args.fit.now.arcs _ (ap (λ n. n.arcs) c.in_ok-push.ensures))
+    (c.push_terms.ensures no_lists c.args.fit.now.arcs _ (ap (λ n. n.arcs) c.in_ok-push.ensures))
 
 pub returns-clause-arcs : goal.returns-clause-arcs
-returns-clause-arcs c s sp ready inv l u e =
+returns-clause-arcs c inv l u e =
+    let s = c.args.schema.now in
+    let own = level_of c.args.spine.now c.args.unit in
     let g = c.args.group in
-    let ts = terms_of (inputs_of s sp inv c.args.m.now) (level_at s (level_of sp c.args.unit)) c.args.unit (group_at c.args.tree.now.groups g) in
+    let ts = terms_of (inputs_of s c.args.spine.now inv c.args.m.now) (level_at s own) c.args.unit (group_at c.args.tree.now.groups g) in
     let arc : ℕ → ℕ → List Term → NamedArc = λ from to terms. record { name = Group c.args.unit g; arc = record { from = from; to = to; low = c.args.low; high = c.args.high }; terms = terms } in
     let more : NamedArc → List NamedArc = λ a. c.args.fit.now.arcs ++ a ∷ [] in
     on_ok_weaker c.push_terms.result
     (λ d. ap (λ n. n.arcs) d
     ∙ ap (λ v. more (arc v c.end_of.result ts)) (from_is l u c.args.base g e)
     ∙ ap (λ v. more (arc (group_node l u g) v ts)) (c.end_of.ensures.node l u e))
-    (c.push_terms.ensures s sp c.args.tree.now c.args.unit ready c.requires.group inv c.args.fit.now.arcs (arc (c.args.base + g) c.end_of.result []) (ap (λ n. n.arcs) c.in_ok-push.ensures))
+    (c.push_terms.ensures inv c.args.fit.now.arcs (arc (c.args.base + g) c.end_of.result []) (ap (λ n. n.arcs) c.in_ok-push.ensures))

@@ -12,11 +12,11 @@ loop-r-preserved c =
     let m : ℕ = c.loop-r.r - 1 in
     let low : m < length c.cells-cells.result.now = omega (arith, c.loop-r-test.true, c.loop-r.auto.r) in
     let last : c.loop-r.r ≡ suc m = omega (arith, c.loop-r-test.true) in
-    let within = subst (λ cs. m < length cs → slice_index cs m < f.all_cells) (sym c.cells-cells.ensures) (λ l. c.layout.ensures.kept.within m 0 l) low in
+    let within = subst (λ cs. m < length cs → slice_index cs m < f.all_cells) (sym c.cells-cells.ensures) (λ l. c.layout-layout.ensures.kept.within m 0 l) low in
     let place = place_below f.layout.units f.all_cells c.args.unit (slice_index cells m) c.requires.unit within in
     let start : ℕ = c.args.unit * c.all_cells.result in
     let same = ap (λ n. c.args.unit * n) c.all_cells.ensures in
-    let first : ℕ = c.first_give.result + c.args.unit * length cells in
+    let first : ℕ = c.layout-layout.result.sources + c.layout-layout.result.states * c.layout-layout.result.kinds + c.args.unit * length cells in
     written_more cells c.args.flow.now start first c.args.counts.now m c.loop-r.counts low (omega (arith, place, same, c.requires.counts))
     (subst (λ n. AreWritten cells c.args.flow.now start first c.args.counts.now n c.loop-r.counts) last c.loop-r.invariant)
 
@@ -27,12 +27,13 @@ returns-clause-counts c = λ j l.
     let old = c.args.counts.now in
     let counts = c.loop-r.counts in
     let unit : ℕ = c.args.unit in
-    let size = ap length c.cells-cells.ensures ∙ c.layout.ensures.kept.cells in
+    let lay = c.layout-layout.result in
+    let size = ap length c.cells-cells.ensures ∙ c.layout-layout.ensures.kept.cells in
     let start : ℕ = unit * c.all_cells.result in
-    let first : ℕ = c.first_give.result + unit * length c.cells-cells.result.now in
+    let first : ℕ = lay.sources + lay.states * lay.kinds + unit * length c.cells-cells.result.now in
     let done : c.loop-r.r ≡ 0 = omega (arith, c.loop-r-test.false) in
     let gives : first ≡ give_place c.args.fit.now.layout c.args.unit 0 =
-    (let e = ap (λ n. n + unit * length c.cells-cells.result.now) (c.first_give.ensures ∙ ap first_give c.layout.ensures.value) in let d = ap (λ n. unit * n) size in omega (arith, e, d)) in
+    (let e = ap (λ l. first_give l + unit * length c.cells-cells.result.now) c.layout-layout.ensures.value in let d = ap (λ n. unit * n) size in omega (arith, e, d)) in
     let here = subst (λ n. AreWritten c.cells-cells.result.now flow start first old n counts) done c.loop-r.invariant in
     let of_fit = subst (λ cs. AreWritten cs flow start first old 0 counts) c.cells-cells.ensures here in
     let at_start = subst (λ n. AreWritten f.cells flow n first old 0 counts) (ap (λ n. unit * n) c.all_cells.ensures) of_fit in
@@ -43,6 +44,6 @@ pub returns-clause-others : goal.returns-clause-others
 returns-clause-others c = λ k side. c.loop-r.invariant.outside k (λ q l e.
     let f = c.args.fit.now in
     let cells = c.cells-cells.result.now in
-    let within = subst (λ cs. q < length cs → slice_index cs q < f.all_cells) (sym c.cells-cells.ensures) (λ l. c.layout.ensures.kept.within q 0 l) l in
+    let within = subst (λ cs. q < length cs → slice_index cs q < f.all_cells) (sym c.cells-cells.ensures) (λ l. c.layout-layout.ensures.kept.within q 0 l) l in
     let same = ap (λ n. c.args.unit * n) c.all_cells.ensures in
     elim side [ inl before ↦ omega (arith, e, before, same) | inr after ↦ omega (arith, e, after, same, within) ])

@@ -1,5 +1,5 @@
 use Rattle.std.proofs.Common.{◌≡◌, ◌+◌, suc, subst, arith}
-use Rattle.tda_fitnet.specs.GroupFlows.{after_passing, GivesPassed}
+use Rattle.tda_fitnet.specs.GroupFlows.{passed, GivesPassed}
 use Rattle.tda_fitnet.proofs.Passing.{gives_start, gives_more, give_room}
 use Rattle.tda_fitnet.proofs.group_flows.pass_gives.Goals as goal
 
@@ -17,5 +17,5 @@ loop-arc-preserved c =
     (omega (arith, c.loop-arc-test.true)) c.requires.limit c.loop-arc.invariant.1 in
     let next : suc c.loop-arc.arc ≡ c.loop-arc.arc + 1 = omega arith in (
       omega (arith, c.loop-arc.invariant.0),
-      rw c.pass_on.ensures (subst (λ n. GivesPassed c.args.net.now c.args.first c.args.node c.args.flow.now n (after_passing c.args.net.now c.args.first c.args.node c.loop-arc.arc c.loop-arc.flow)) next more),
+      rw c.pass_on.ensures (subst (λ n. GivesPassed c.args.net.now c.args.first c.args.node c.args.flow.now n (passed c.args.net.now c.args.first c.args.node c.loop-arc.arc c.loop-arc.flow)) next more),
     )

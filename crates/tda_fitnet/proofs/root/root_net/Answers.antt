@@ -4,7 +4,7 @@ use Rattle.tda_flow.specs.Network.{IsSound}
 use Rattle.tda_fitnet.specs.Inputs.{inputs_of}
 use Rattle.tda_fitnet.specs.NamedNetwork.{NamedNetwork}
 use Rattle.tda_fitnet.specs.FitNetwork.{net_at}
-use Rattle.tda_fitnet.proofs.Ready.{root_is, root_kept, root_tables, root_own, root_size}
+use Rattle.tda_fitnet.proofs.Ready.{root_is, root_kept, root_tables}
 use Rattle.tda_fitnet.proofs.root.root_net.Goals as goal
 
 pub push_root-requires-clause-layout : goal.push_root-requires-clause-layout
@@ -35,26 +35,3 @@ returns-clause-tables c =
     c.in_ok-push_root.ensures.nodes (c.in_ok-cells.ensures.items_if_clones_equal (λ x y e. e) ∙ c.members.ensures.value ∙ c.requires.tree.whole) c.cells.ensures.count
     (c.root_layout-layout.ensures.layout c.args.inv.now c.args.m.now) c.in_ok-push_root.ensures.arcs in
     root_tables s sp c.args.inv.now c.args.m.now c.requires.joined c.requires.belong.depth c.args.tree.now c.requires.tree (subst IsSound (c.net.ensures.value ∙ ap net_at is) c.net.ensures.sound)
-
-pub returns-clause-own_tables : goal.returns-clause-own_tables
-returns-clause-own_tables c =
-    let s = c.args.schema.now in
-    let sp = c.args.spine.now in
-    let inv = c.args.inv.now in
-    let m = c.args.m.now in
-    let is = c.new-fit.ensures ∙ root_is (inputs_of s sp inv m) c.args.tree.now.groups c.root_layout-layout.result c.push_root.new.fit _ _
-    c.in_ok-push_root.ensures.nodes (c.in_ok-cells.ensures.items_if_clones_equal (λ x y e. e) ∙ c.members.ensures.value ∙ c.requires.tree.whole) c.cells.ensures.count
-    (c.root_layout-layout.ensures.layout inv m) c.in_ok-push_root.ensures.arcs in
-    root_own s sp inv m c.requires.belong.depth c.args.tree.now c.new-fit.result c.requires.joined.tree c.requires.tree is
-    (root_tables s sp inv m c.requires.joined c.requires.belong.depth c.args.tree.now c.requires.tree (subst IsSound (c.net.ensures.value ∙ ap net_at is) c.net.ensures.sound))
-
-pub returns-clause-size : goal.returns-clause-size
-returns-clause-size c =
-    let s = c.args.schema.now in
-    let sp = c.args.spine.now in
-    let inv = c.args.inv.now in
-    let m = c.args.m.now in
-    let is = c.new-fit.ensures ∙ root_is (inputs_of s sp inv m) c.args.tree.now.groups c.root_layout-layout.result c.push_root.new.fit _ _
-    c.in_ok-push_root.ensures.nodes (c.in_ok-cells.ensures.items_if_clones_equal (λ x y e. e) ∙ c.members.ensures.value ∙ c.requires.tree.whole) c.cells.ensures.count
-    (c.root_layout-layout.ensures.layout inv m) c.in_ok-push_root.ensures.arcs in
-    root_size s sp inv m c.requires.belong.depth c.args.tree.now c.new-fit.result c.requires.joined.tree c.requires.tree is

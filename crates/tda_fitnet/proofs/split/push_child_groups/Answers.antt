@@ -15,9 +15,6 @@ pub push_group-requires-clause-order : goal.push_group-requires-clause-order
 push_group-requires-clause-order c =
     omega (arith, c.group_bounds-low.ensures.low c.args.m.now, c.group_bounds-low.ensures.high c.args.m.now, c.requires.order c.loop-group.group (omega (arith, c.loop-group-test.true, c.len-group-end.ensures.count)))
 
-pub push_group-requires-clause-ready : goal.push_group-requires-clause-ready
-push_group-requires-clause-ready c = (c.args.schema.now, c.args.spine.now, c.requires.ready)
-
 pub push_group-requires-clause-room : goal.push_group-requires-clause-room
 push_group-requires-clause-room c = omega (arith, c.loop-group.invariant.1, c.requires.room, c.loop-group-test.true, c.len-group-end.ensures.count)
 
@@ -31,7 +28,7 @@ loop-group-preserved c = (
       let level = level_at c.args.schema.now (level_of c.args.spine.now c.args.child) in
       let g = c.loop-group.group in
       let child = c.args.child in
-      c.in_ok-push_group.ensures.arcs c.args.schema.now c.args.spine.now c.requires.ready c.args.inv.now l u e
+      c.in_ok-push_group.ensures.arcs c.args.inv.now l u e
       ∙ ap (λ n. c.loop-group.fit.arcs ++ group_arc i l groups level u child g n c.group_bounds-low.result.1 ∷ []) (c.group_bounds-low.ensures.low c.args.m.now)
       ∙ ap (λ n. c.loop-group.fit.arcs ++ group_arc i l groups level u child g (group_low i child g (group_at groups g)) n ∷ []) (c.group_bounds-low.ensures.high c.args.m.now)
       ∙ row_more _ _ g (λ h. group_arc i l groups level u child h (group_low i child h (group_at groups h)) (group_high i child h (group_at groups h))) (c.loop-group.invariant.2 l u e),

@@ -2,9 +2,7 @@
 use Rattle.std.proofs.Common.{◌+◌, ◌*◌, ◌++◌, length, slice_index, refl, sym, ap, ◌∙◌, subst, arith}
 use Rattle.tda_model.specs.Spine.{level_of, children_of}
 use Rattle.tda_schema.specs.Stated.{level_at}
-use Rattle.tda_places.specs.Spots.{before_level}
-use Rattle.tda_fitnet.specs.TermTable.{IsTableOf}
-use Rattle.tda_fitnet.proofs.TermStep.{ready_at}
+use Rattle.tda_groups.specs.Tree.{IsTreeOf}
 use Rattle.tda_fitnet.specs.Inputs.{inputs_of}
 use Rattle.tda_fitnet.specs.Rows.{AreOrdered, child_group, child_groups}
 use Rattle.tda_fitnet.proofs.OneMore.{rows_more, rows_room, rows_count}
@@ -15,25 +13,15 @@ pub push_child_groups-requires-clause-child : goal.push_child_groups-requires-cl
 push_child_groups-requires-clause-child c =
     (listed_below c.args.spine.now c.requires.joined.tree c.args.parent c.requires.parent.here _ c.children-child-items.ensures c.loop-u.u c.loop-u-test.true).here
 
-pub unit_first-first-requires-clause-unit : goal.unit_first-first-requires-clause-unit
-unit_first-first-requires-clause-unit c =
-    (listed_below c.args.spine.now c.requires.joined.tree c.args.parent c.requires.parent.here _ c.children-child-items.ensures c.loop-u.u c.loop-u-test.true).here
+pub push_child_groups-requires-clause-level : goal.push_child_groups-requires-clause-level
+push_child_groups-requires-clause-level c =
+    let below = listed_below c.args.spine.now c.requires.joined.tree c.args.parent c.requires.parent.here _ c.children-child-items.ensures c.loop-u.u c.loop-u-test.true in
+    omega (arith, below.level, c.requires.parent.above, c.requires.belong)
 
-pub unit_first-first-requires-clause-level : goal.unit_first-first-requires-clause-level
-unit_first-first-requires-clause-level c =
-    let sp = c.args.spine.now in
-    let below = listed_below sp c.requires.joined.tree c.args.parent c.requires.parent.here _ c.children-child-items.ensures c.loop-u.u c.loop-u-test.true in
-    c.level_first-earlier.ensures.first ∙ ap (before_level c.args.schema.now sp) (ap (λ n. n + 1) c.level-level.ensures ∙ sym below.level)
-
-pub push_child_groups-requires-clause-ready : goal.push_child_groups-requires-clause-ready
-push_child_groups-requires-clause-ready c =
-    let s = c.args.schema.now in
-    let sp = c.args.spine.now in
-    let below = listed_below sp c.requires.joined.tree c.args.parent c.requires.parent.here _ c.children-child-items.ensures c.loop-u.u c.loop-u-test.true in
-    let level = level_of sp c.args.parent + 1 in
-    ready_at s sp c.args.tree.now c.in_ok-terms.terms c.args.m.now _ c.unit_first-first.result level below.level
-    (omega (arith, c.requires.parent.above, c.requires.belong)) c.requires.tree
-    (subst (λ n. IsTableOf s n c.args.tree.now.groups c.in_ok-terms.terms) (ap (λ n. n + 1) c.level-level.ensures) c.in_ok-terms.ensures) c.requires.measured c.unit_first-first.ensures
+pub push_child_groups-requires-clause-tree : goal.push_child_groups-requires-clause-tree
+push_child_groups-requires-clause-tree c =
+    let below = listed_below c.args.spine.now c.requires.joined.tree c.args.parent c.requires.parent.here _ c.children-child-items.ensures c.loop-u.u c.loop-u-test.true in
+    subst (λ v. IsTreeOf c.args.schema.now (level_at c.args.schema.now v) c.args.tree.now) (sym below.level) c.requires.tree
 
 pub push_child_groups-requires-clause-order : goal.push_child_groups-requires-clause-order
 push_child_groups-requires-clause-order c =

@@ -4,7 +4,7 @@ use Rattle.tda_flow.specs.Network.{IsSound}
 use Rattle.tda_fitnet.specs.Inputs.{inputs_of}
 use Rattle.tda_fitnet.specs.NamedNetwork.{NamedNetwork}
 use Rattle.tda_fitnet.specs.FitNetwork.{net_at}
-use Rattle.tda_fitnet.proofs.Ready.{split_is, split_kept, split_tables, split_own, split_size}
+use Rattle.tda_fitnet.proofs.Ready.{split_is, split_kept, split_tables}
 use Rattle.tda_fitnet.proofs.split.split_net.Goals as goal
 
 pub push_split-requires-clause-layout : goal.push_split-requires-clause-layout
@@ -36,29 +36,3 @@ returns-clause-tables c =
     c.args.parent (slice_index c.args.table.now) (c.split_layout-layout.ensures.layout c.args.inv.now c.args.m.now) c.in_ok-push_split.ensures.arcs in
     split_tables s sp c.args.inv.now c.args.m.now c.requires.joined c.args.parent c.requires.parent c.args.tree.now c.requires.tree (slice_index c.args.table.now) c.requires.can_be c.requires.few
     c.requires.belong.depth (subst IsSound (c.net.ensures.value ∙ ap net_at is) c.net.ensures.sound)
-
-pub returns-clause-own_tables : goal.returns-clause-own_tables
-returns-clause-own_tables c =
-    let s = c.args.schema.now in
-    let sp = c.args.spine.now in
-    let inv = c.args.inv.now in
-    let m = c.args.m.now in
-    let x = slice_index c.args.table.now in
-    let is = c.new-fit.ensures ∙ split_is (inputs_of s sp inv m) c.args.tree.now.groups c.split_layout-layout.result c.push_split.new.fit _ _
-    c.in_ok-push_split.ensures.nodes (c.in_ok-cells.ensures.items_if_clones_equal (λ x y e. e) ∙ c.members.ensures.value ∙ c.requires.tree.whole) c.cells.ensures.count
-    c.args.parent x (c.split_layout-layout.ensures.layout inv m) c.in_ok-push_split.ensures.arcs in
-    split_own s sp inv m c.requires.belong.depth c.args.tree.now c.new-fit.result c.args.parent c.requires.parent x c.requires.tree is
-    (split_tables s sp inv m c.requires.joined c.args.parent c.requires.parent c.args.tree.now c.requires.tree x c.requires.can_be c.requires.few
-    c.requires.belong.depth (subst IsSound (c.net.ensures.value ∙ ap net_at is) c.net.ensures.sound))
-
-pub returns-clause-size : goal.returns-clause-size
-returns-clause-size c =
-    let s = c.args.schema.now in
-    let sp = c.args.spine.now in
-    let inv = c.args.inv.now in
-    let m = c.args.m.now in
-    let x = slice_index c.args.table.now in
-    let is = c.new-fit.ensures ∙ split_is (inputs_of s sp inv m) c.args.tree.now.groups c.split_layout-layout.result c.push_split.new.fit _ _
-    c.in_ok-push_split.ensures.nodes (c.in_ok-cells.ensures.items_if_clones_equal (λ x y e. e) ∙ c.members.ensures.value ∙ c.requires.tree.whole) c.cells.ensures.count
-    c.args.parent x (c.split_layout-layout.ensures.layout inv m) c.in_ok-push_split.ensures.arcs in
-    split_size s sp inv m c.requires.belong.depth c.args.tree.now c.new-fit.result c.args.parent c.requires.parent x c.requires.tree is

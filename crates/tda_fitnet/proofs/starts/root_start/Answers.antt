@@ -39,7 +39,7 @@ pub sum_fit_groups-requires-clause-limit : goal.sum_fit_groups-requires-clause-l
 sum_fit_groups-requires-clause-limit c =
     let given = root_given (inputs_of c.args.schema.now c.args.spine.now c.args.inv.now c.requires.fit.measured) c.requires.joined.tree c.requires.joined.kinds c.requires.joined.most
     (always c.args.schema.now c.args.spine.now c.args.inv.now c.requires.joined).few c.requires.fit.tree c.requires.fit.is_tree c.requires.joined.suffice c.args.fit.now c.requires.fit.is
-    _ (c.first_give-first.ensures ∙ ap first_give c.layout.ensures.value) c.cells.result.now c.cells.ensures c.put_states.new.flow c.put_states.new.sums c.give_first.new.flow
+    _ (ap first_give c.layout-layout.ensures.value) c.cells.result.now c.cells.ensures c.put_states.new.flow c.put_states.new.sums c.give_first.new.flow
     (c.put_states.ensures.count ∙ c.fill.ensures.len ∙ c.requires.flow) c.give_first.ensures.count c.put_states.ensures.totals c.put_states.ensures.shares c.put_states.ensures.sums
     c.give_first.ensures.kinds c.give_first.ensures.others in
     root_limit (inputs_of c.args.schema.now c.args.spine.now c.args.inv.now c.requires.fit.measured) c.requires.joined.tree c.requires.joined.kinds c.requires.joined.most
@@ -47,7 +47,7 @@ sum_fit_groups-requires-clause-limit c =
 
 pub sum_fit_groups-requires-clause-none : goal.sum_fit_groups-requires-clause-none
 sum_fit_groups-requires-clause-none c = λ k l m.
-    let at = c.first_give-first.ensures ∙ ap first_give c.layout.ensures.value in
+    let at = ap first_give c.layout-layout.ensures.value in
     let room = root_empty (inputs_of c.args.schema.now c.args.spine.now c.args.inv.now c.requires.fit.measured) c.requires.joined.tree c.requires.joined.kinds c.requires.joined.most
     (always c.args.schema.now c.args.spine.now c.args.inv.now c.requires.joined).few c.requires.fit.tree c.requires.fit.is_tree c.requires.joined.suffice c.args.fit.now c.requires.fit.is _ at c.cells.result.now c.cells.ensures k l in
     c.give_first.ensures.others k (inr room.0) ∙ c.put_states.ensures.others k room.1
@@ -57,7 +57,7 @@ pub returns : goal.returns
 returns c =
     let given = root_given (inputs_of c.args.schema.now c.args.spine.now c.args.inv.now c.requires.fit.measured) c.requires.joined.tree c.requires.joined.kinds c.requires.joined.most
     (always c.args.schema.now c.args.spine.now c.args.inv.now c.requires.joined).few c.requires.fit.tree c.requires.fit.is_tree c.requires.joined.suffice c.args.fit.now c.requires.fit.is
-    _ (c.first_give-first.ensures ∙ ap first_give c.layout.ensures.value) c.cells.result.now c.cells.ensures c.put_states.new.flow c.put_states.new.sums c.give_first.new.flow
+    _ (ap first_give c.layout-layout.ensures.value) c.cells.result.now c.cells.ensures c.put_states.new.flow c.put_states.new.sums c.give_first.new.flow
     (c.put_states.ensures.count ∙ c.fill.ensures.len ∙ c.requires.flow) c.give_first.ensures.count c.put_states.ensures.totals c.put_states.ensures.shares c.put_states.ensures.sums
     c.give_first.ensures.kinds c.give_first.ensures.others in
     let sum = c.sum_fit_groups.ensures in

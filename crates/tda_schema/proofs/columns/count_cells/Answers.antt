@@ -1,6 +1,6 @@
 use Rattle.std.proofs.Common.{◌≡◌, ◌∙◌, length, ap, sym, arith, string_bytes}
 use Rattle.std.proofs.lemmas.List.{length-map}
-use Rattle.tda_document.proofs.CellsIn.{next_is}
+use Rattle.tda_schema.proofs.CellsIn.{next_is}
 use Rattle.tda_schema.proofs.ColumnLemmas.{product_few}
 use Rattle.tda_schema.proofs.columns.count_cells.Goals as goal
 

@@ -1,7 +1,7 @@
 use Rattle.std.proofs.Common.{◌≡◌, ◌*◌, true, drop}
 use Rattle.std.specs.List.{list_all}
 use Rattle.tda_model.specs.Cells.{cells_in}
-use Rattle.tda_document.specs.Sizes.{attribute_has_size}
+use Rattle.tda_schema.specs.Sizes.{attribute_has_size}
 use Rattle.tda_schema.proofs.columns.count_cells.Given as goal
 
 abbrev pub invariant-loop-attribute : goal.invariant-loop-attribute

@@ -2,7 +2,7 @@ use Rattle.std.proofs.Common.{◌≡◌, ◌∙◌, true, sym, ap}
 use Rattle.std.specs.List.{list_all}
 use Rattle.tda_model.specs.Schema.{Schema}
 use Rattle.tda_schema.specs.Parts.{has_kinds}
-use Rattle.tda_document.specs.Sizes.{attribute_has_size}
+use Rattle.tda_schema.specs.Sizes.{attribute_has_size}
 use Rattle.tda_schema.proofs.LevelLemmas.{are_sized, parts_made, parted_is}
 use Rattle.tda_schema.proofs.finish.parts_of.Goals as goal
 

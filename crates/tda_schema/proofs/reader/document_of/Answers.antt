@@ -1,6 +1,6 @@
 use Rattle.std.proofs.Common.{ap}
 use Rattle.tda_schema.specs.declared.fault.SchemaFault.TheVariants.{BadToml}
-use Rattle.tda_document.specs.Typed.{found}
+use Rattle.tda_schema.specs.Typed.{found}
 use Rattle.tda_schema.proofs.Documents.{document_is, no_document, not_true}
 use Rattle.tda_schema.proofs.reader.document_of.Goals as goal
 

@@ -1,5 +1,5 @@
 use Rattle.std.proofs.Common.{[]}
-use Rattle.tda_document.specs.Known.{entry_is_known}
+use Rattle.tda_schema.specs.Known.{entry_is_known}
 use Rattle.tda_schema.proofs.Finding.{passes_at}
 use Rattle.tda_schema.proofs.stating.entries_named.Goals as goal
 

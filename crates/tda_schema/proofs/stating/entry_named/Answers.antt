@@ -1,8 +1,8 @@
 use Rattle.std.proofs.Common.{◌≡◌, ℕ, Some, None, true, false, ◌||◌, List, position, is_some, if◌then◌else◌, sym, ap, ◌∙◌}
 use Rattle.std.specs.Str.{bytes_eq}
 use Rattle.tda_model.specs.Schema.{Attribute, Attribute_values, Recode_labels}
-use Rattle.tda_document.specs.Raw.{RawRecode, RawSchema}
-use Rattle.tda_document.specs.Known.{is_attribute, is_recode, entry_is_known}
+use Rattle.tda_schema.specs.Raw.{RawRecode, RawSchema}
+use Rattle.tda_schema.specs.Known.{is_attribute, is_recode, entry_is_known}
 use Rattle.tda_schema.specs.Stating as spec
 use Rattle.tda_schema.proofs.Finding.{position-list_any, first_place}
 use Rattle.tda_schema.proofs.stating.entry_named.Goals as goal

@@ -4,9 +4,9 @@ use Rattle.std.specs.Str.{bytes_eq}
 use Rattle.std.specs.Option.{option_map_or}
 use Rattle.std.proofs.lemmas.Option.{get_or_from_slice_get}
 use Rattle.tda_model.specs.Schema.{Attribute}
-use Rattle.tda_document.specs.Raw.{RawListed}
-use Rattle.tda_document.specs.Sizes.{attribute_named}
-use Rattle.tda_document.specs.Known.{is_value, is_attribute}
+use Rattle.tda_schema.specs.Raw.{RawListed}
+use Rattle.tda_schema.specs.Sizes.{attribute_named}
+use Rattle.tda_schema.specs.Known.{is_value, is_attribute}
 use Rattle.tda_schema.specs.Stating as spec
 use Rattle.tda_schema.proofs.Finding.{position-list_any, first_place}
 use Rattle.tda_schema.proofs.KnownLemmas.{Names, names}

@@ -1,6 +1,6 @@
 use Rattle.std.proofs.Common.{is_some, ap, ◌∙◌}
 use Rattle.std.specs.Str.{bytes_eq}
-use Rattle.tda_document.specs.Known.{recode_is_known}
+use Rattle.tda_schema.specs.Known.{recode_is_known}
 use Rattle.tda_schema.proofs.Finding.{position-list_any}
 use Rattle.tda_schema.proofs.stating.recode_of.Goals as goal
 

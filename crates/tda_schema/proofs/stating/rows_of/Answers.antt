@@ -1,5 +1,5 @@
 use Rattle.std.proofs.Common.{ap, ◌∙◌}
-use Rattle.tda_document.specs.Known.{row_is_known}
+use Rattle.tda_schema.specs.Known.{row_is_known}
 use Rattle.tda_schema.proofs.Finding.{passes_at}
 use Rattle.tda_schema.proofs.stating.rows_of.Goals as goal
 

@@ -1,6 +1,6 @@
 use Rattle.std.proofs.Common.{◌≡◌, ◌+◌, ◌∷◌, [], ◌++◌, List, Bor, ℕ, map, take, get_or, sym, ap, ◌∙◌}
 use Rattle.std.proofs.lemmas.List.{take_more, map_push}
-use Rattle.tda_document.specs.Known.{is_value}
+use Rattle.tda_schema.specs.Known.{is_value}
 use Rattle.tda_schema.specs.Stating as spec
 use Rattle.tda_schema.proofs.Finding.{passes_at}
 use Rattle.tda_schema.proofs.stating.value_numbers.Goals as goal

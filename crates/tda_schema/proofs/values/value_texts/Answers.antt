@@ -1,6 +1,6 @@
 use Rattle.std.proofs.Common.{◌≡◌, ◌∙◌, ℕ, List, [], map, take, get_or, string_bytes, All, ap, sym, subst, arith}
 use Rattle.std.proofs.lemmas.List.{take-map, get_or-map, length-map}
-use Rattle.tda_document.proofs.DistinctLemmas.{apart_before}
+use Rattle.tda_schema.proofs.DistinctLemmas.{apart_before}
 use Rattle.tda_schema.proofs.values.value_texts.Goals as goal
 
 pub push-requires : goal.push-requires

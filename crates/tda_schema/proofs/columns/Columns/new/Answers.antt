@@ -4,7 +4,7 @@ use Rattle.std.proofs.lemmas.List.{length-map, map_push}
 use Rattle.tda_model.specs.Cells.{cells_in}
 use Rattle.tda_sets.proofs.Ranges.{map_range_push}
 use Rattle.tda_schema.specs.Columns.{column_of}
-use Rattle.tda_document.proofs.CellsIn.{IsNext, next_is}
+use Rattle.tda_schema.proofs.CellsIn.{IsNext, next_is}
 use Rattle.tda_schema.proofs.ColumnLemmas.{column_is, next_stride, next_stride_some}
 use Rattle.tda_schema.proofs.columns.Columns.new.Goals as goal
 use Rattle.tda_schema.proofs.columns.Columns.new.Goals.{After-len-size}

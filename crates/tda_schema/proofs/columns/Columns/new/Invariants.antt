@@ -1,7 +1,7 @@
 use Rattle.std.proofs.Common.{◌≡◌, true, drop, map}
 use Rattle.std.specs.List.{list_all, range_with_len}
 use Rattle.tda_model.specs.Cells.{cells_in}
-use Rattle.tda_document.specs.Sizes.{attribute_has_size}
+use Rattle.tda_schema.specs.Sizes.{attribute_has_size}
 use Rattle.tda_schema.specs.Columns.{column_of}
 use Rattle.tda_schema.proofs.columns.Columns.new.Given as goal
 

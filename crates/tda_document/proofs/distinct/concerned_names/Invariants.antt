@@ -1,6 +1,0 @@
-use Rattle.std.proofs.Common.{◌≡◌, take, map}
-use Rattle.tda_document.specs.Origins.{concerned}
-use Rattle.tda_document.proofs.distinct.concerned_names.Given as goal
-
-abbrev pub invariant-loop-entry : goal.invariant-loop-entry
-invariant-loop-entry l = map (λ t. t.now) l.names.items ≡ map (λ t. concerned l.origins t.now) (take l.entry-index l.by)

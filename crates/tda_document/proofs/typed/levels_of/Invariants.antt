@@ -1,7 +1,0 @@
-use Rattle.toml.specs.View.{view}
-use Rattle.tda_document.specs.Typed as spec
-use Rattle.tda_document.proofs.Each.{Leads}
-use Rattle.tda_document.proofs.typed.levels_of.Given as goal
-
-abbrev pub invariant-loop-item : goal.invariant-loop-item
-invariant-loop-item l = Leads spec.level_of l.found.items l.item-items (spec.list_of spec.level_of (view l.value)) l.item-index

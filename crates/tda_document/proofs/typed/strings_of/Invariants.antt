@@ -1,8 +1,0 @@
-use Rattle.std.proofs.Common.{map}
-use Rattle.toml.specs.View.{view}
-use Rattle.tda_document.specs.Typed as spec
-use Rattle.tda_document.proofs.Each.{Leads}
-use Rattle.tda_document.proofs.typed.strings_of.Given as goal
-
-abbrev pub invariant-loop-item : goal.invariant-loop-item
-invariant-loop-item l = Leads spec.string_of (map (λ s. s.now) l.found.items) l.item-items (spec.list_of spec.string_of (view l.value)) l.item-index
