@@ -23,9 +23,9 @@ def stands_on(lines, names):
     return [line for line in lines if line.split(":")[0] in found]
 
 
-def build(folder, name, uses, program, invariants=None):
+def build(folder, name, uses, program, invariants=None, answers=None):
     """Makes a program that uses these crates, from copies of them and of what their checks kept, with the invariants of its
-    functions' loops, and gives its path."""
+    functions' loops and the answers to their goals, and gives its path."""
     lines = [line for line in (TOP / "crates.txt").read_text().splitlines() if line and not line.startswith("#")]
     lines = stands_on(lines, uses)
     (folder / "crates.txt").write_text("\n".join(lines + [f"{name}: {' '.join(uses)}"]) + "\n")
@@ -37,9 +37,10 @@ def build(folder, name, uses, program, invariants=None):
     crate = folder / "crates" / name
     (crate / "src").mkdir(parents=True)
     (crate / "src/main.rt").write_text(program.lstrip())
-    for function, text in (invariants or {}).items():
-        (crate / "proofs" / function).mkdir(parents=True)
-        (crate / "proofs" / function / "Invariants.antt").write_text(text.lstrip())
+    for file, texts in [("Invariants.antt", invariants), ("Answers.antt", answers)]:
+        for function, text in (texts or {}).items():
+            (crate / "proofs" / function).mkdir(parents=True, exist_ok=True)
+            (crate / "proofs" / function / file).write_text(text.lstrip())
     made = subprocess.run(["rt", "run"], cwd=crate, stdin=subprocess.DEVNULL, capture_output=True, text=True)
     path = crate / "out" / name
     if not path.exists():

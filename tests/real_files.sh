@@ -77,6 +77,33 @@ run_without_words() {
   echo "${report% words=*}"
 }
 
+# audit TABLES PRICES: of the small example's release by a run
+audit() {
+  "$tda" audit --schema "$data/schema.toml" --spine "$data/spine.csv" --facilities "$data/facilities.csv" \
+    --totals "$folder/run_totals.csv" --measurements "$folder/run_measurements.csv" --tables "$1" --prices "$2"
+}
+
+# The status of an audit, and its report without the deviation.
+audit_without_deviation() {
+  report=$(audit "$@")
+  status=$?
+  echo "${report% deviation=*}"
+  return "$status"
+}
+
+# The deviation that a run tells, and the one that an audit of its files tells.
+deviations_agree() {
+  told=$(run "$folder/run_measurements.csv" "$folder/run_tables.csv")
+  judged=$(audit "$folder/run_tables.csv" "$folder/run_prices.csv")
+  [ "${told##* }" = "${judged##* }" ]
+}
+
+# The last line that the release of a town prints.
+town_without_deviation() {
+  report=$("$top/examples/town/release" "$folder/town") || return
+  echo "$report" | sed -n '$s/ deviation=.*//p'
+}
+
 fit_to_full_device() {
   fit "$data/schema.toml" "$data/spine.csv" "$data/facilities.csv" "$data/totals.csv" "$folder/other.csv" >/dev/full
 }
@@ -114,6 +141,24 @@ try "with the same totals" 0 - cmp "$folder/totals.csv" "$folder/run_totals.csv"
 try "and fits the same tables" 0 - cmp "$folder/measured_tables.csv" "$folder/run_tables.csv"
 try "a run whose tables can't be written" 5 - run "$folder/new.csv" "$folder/none/tables.csv"
 rm -f "$folder/new.csv"
+try "the audit of what the run wrote" 0 "ok audit fits=11" audit_without_deviation "$folder/run_tables.csv" "$folder/run_prices.csv"
+try "tells the run's deviation" 0 - deviations_agree
+awk -F, -v OFS=, 'NR == 2 { $3 += 1 } { print }' "$folder/run_tables.csv" >"$folder/forged.csv"
+try "one person more in the nation" 1 "no sum US 0" audit "$folder/forged.csv" "$folder/run_prices.csv"
+head -n 1 "$folder/run_prices.csv" >"$folder/no_prices.csv"
+try "prices of no fit" 3 "refused prices Missing -" audit "$folder/run_tables.csv" "$folder/no_prices.csv"
+try "missing prices" 4 "read prices" audit "$folder/run_tables.csv" "$folder/none"
+try "the town's release and its audit" 0 "ok audit fits=7" town_without_deviation
+for file in measurements totals ledger; do
+  try "the town's $file" 0 - cmp "$folder/town/$file.csv" "$top/examples/town/expected/$file.csv"
+done
+if python3 -c 'import tomllib' 2>/dev/null; then
+  try "the worth of a release" 0 - sh -c '"$1/examples/worth" "$2/worth.svg" >"$2/worth.txt"' - "$top" "$folder"
+  try "its table" 0 10 awk 'END { print NR }' "$folder/worth.txt"
+  try "its picture" 0 8 grep -c '<rect' "$folder/worth.svg"
+else
+  skip "the worth of a release (there is no python3 that reads TOML)"
+fi
 try "the same words again" 0 "ok measure places=44 spent=1/1" seeded_without_words 0 "$folder/again.csv"
 try "give the same noise" 0 - cmp "$folder/measurements.csv" "$folder/again.csv"
 try "other words" 0 "ok measure places=44 spent=1/1" seeded_without_words 1000000 "$folder/others.csv"

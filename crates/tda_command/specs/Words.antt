@@ -5,7 +5,7 @@ use Rattle.std.specs.Str.{bytes_eq}
 use Rattle.std.specs.Map.{lookup}
 use Rattle.tda_io.specs.Texts.{int_of}
 use Rattle.tda_command.specs.declared.words.Command.{Command}
-use Rattle.tda_command.specs.declared.words.Command.TheVariants.{Fit, Measure, Run}
+use Rattle.tda_command.specs.declared.words.Command.TheVariants.{Fit, Measure, Run, Audit}
 use Rattle.tda_command.specs.declared.words.Number.{Number}
 use Rattle.tda_command.specs.declared.words.Number.TheVariants as number
 use Rattle.tda_command.specs.declared.words.Source.{Source}
@@ -90,11 +90,20 @@ run_form from = record {
   numbers = source_numbers from;
 }
 
+abbrev pub audit_form : Form
+audit_form = record {
+  word = codes "audit";
+  reads = codes "schema" ∷ codes "spine" ∷ codes "facilities" ∷ codes "totals" ∷ codes "measurements" ∷ codes "tables" ∷ codes "prices" ∷ [];
+  writes = [];
+  numbers = [];
+}
+
 -- the form of a command, where the words of the noise come from there
 abbrev pub form_of : Source → Command → Form
 form_of from Fit = fit_form
 form_of from Measure = measure_form from
 form_of from Run = run_form from
+form_of from Audit = audit_form
 
 -- A seed that stands is where the words of the noise come from, and else it is a file of words. Since no other name may stand, the
 -- names of exactly one of the two choices stand.
@@ -175,7 +184,7 @@ abbrev pub source_of : List (List ℕ) → Source
 source_of words = source_in (pairs_after words)
 
 abbrev pub commands : List Command
-commands = Fit ∷ Measure ∷ Run ∷ []
+commands = Fit ∷ Measure ∷ Run ∷ Audit ∷ []
 
 -- the command that the words are
 abbrev pub command_of : List (List ℕ) → Option Command

@@ -15,6 +15,8 @@ pub enum Command {
     Fit,
     /// Both, from records and words: the tables are made from what is measured.
     Run,
+    /// A verdict on tables and prices.
+    Audit,
 }
 
 /// Where the words of the noise come from.
@@ -72,6 +74,7 @@ impl Command {
             Command::Measure => "measure",
             Command::Fit => "fit",
             Command::Run => "run",
+            Command::Audit => "audit",
         }
     }
 
@@ -87,6 +90,15 @@ impl Command {
                 &["schema", "spine", "facilities", "records", "seed"]
             }
             (Command::Fit, _) => &["schema", "spine", "facilities", "totals", "measurements"],
+            (Command::Audit, _) => &[
+                "schema",
+                "spine",
+                "facilities",
+                "totals",
+                "measurements",
+                "tables",
+                "prices",
+            ],
         }
     }
 
@@ -98,6 +110,7 @@ impl Command {
             Command::Measure => &["measurements", "totals", "ledger"],
             Command::Fit => &["tables", "prices"],
             Command::Run => &["measurements", "totals", "ledger", "tables", "prices"],
+            Command::Audit => &[],
         }
     }
 
@@ -107,7 +120,8 @@ impl Command {
     {
         match (self, source) {
             (Command::Measure | Command::Run, Source::Seed) => &[Number::Place, Number::Budget],
-            (Command::Measure | Command::Run, Source::Words) | (Command::Fit, _) => &[],
+            (Command::Measure | Command::Run, Source::Words) | (Command::Fit | Command::Audit, _) =>
+                &[],
         }
     }
 }
@@ -298,6 +312,8 @@ pub fn judge(words: &[String]) -> Option<Command>
         Some(Command::Measure)
     } else if has_form(Command::Run, words) {
         Some(Command::Run)
+    } else if has_form(Command::Audit, words) {
+        Some(Command::Audit)
     } else {
         None
     }

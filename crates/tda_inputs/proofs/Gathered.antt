@@ -1,5 +1,5 @@
 -- The files of the inputs, one after the other.
-use Rattle.std.proofs.Common.{◌≡◌, ◌∙◌, ap, sym, subst, refl, arith, List, ℕ, ℤ, Option, Some, option_map, Result, Ok, Err}
+use Rattle.std.proofs.Common.{◌≡◌, sym, subst, refl, arith, List, ℕ, ℤ, Option, option_map, Result, Ok, Err}
 use Rattle.std.specs.Result.{IsErrAnd}
 use Rattle.tda_io.specs.Due.{◌>>=◌}
 use Rattle.tda_io.specs.Outside.{Shelf, asks}

@@ -4,6 +4,7 @@ pub mod Stops
 pub mod Bases
 pub mod Beside
 pub mod Gathered
+pub mod Cases
 pub mod Agreed
 pub mod Surveys
 pub mod Noises

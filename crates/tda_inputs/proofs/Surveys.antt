@@ -16,7 +16,7 @@ use Rattle.tda_command.specs.Words.{source_of}
 use Rattle.tda_inputs.specs.Ending.{Ending, judged_file}
 use Rattle.tda_inputs.specs.Accepted.{Given, base_from, records_from, survey_from}
 use Rattle.tda_refusal.specs.Refusal.{records_text, hist_text}
-use Rattle.tda_inputs.specs.Files.{name_of, place_of_file, IsRead}
+use Rattle.tda_inputs.specs.Files.{IsRead}
 use Rattle.tda_inputs.specs.Reading.{path_of, GivesBy, GivesFile, GivesTables, GivesNoise, Judges, AreTrueCounts, AreEnough, AsksFile, Gathers, AsksFiles, noise_words, source_path, IsCounted, ReadsSurvey, Surveys}
 use Rattle.tda_inputs.specs.declared.base.Base.{Base}
 use Rattle.tda_inputs.specs.declared.counted.Counted.{Counted}

@@ -12,7 +12,7 @@ use Rattle.tda_places.specs.Measurements.{measured_at}
 use Rattle.tda_invar.specs.Known.{known, join_due}
 use Rattle.tda_hist.specs.Agreement.{agree_due}
 use Rattle.tda_command.specs.Words.{reads_of, source_of}
-use Rattle.tda_refusal.specs.Refusal.{schema_text, spine_text, facilities_text, totals_text, join_text, records_text, hist_text, measurements_text}
+use Rattle.tda_refusal.specs.Refusal.{schema_text, spine_text, facilities_text, totals_text, join_text, records_text, hist_text, measurements_text, tables_text, prices_text}
 use Rattle.tda_inputs.specs.declared.base.Base.{Base}
 use Rattle.tda_inputs.specs.Ending.{Ending, written_limit, or_refused, judged_within, judged_file}
 use Rattle.tda_inputs.specs.Survey.{Survey, noise_from}
@@ -22,6 +22,9 @@ use Rattle.tda_invar.specs.Facilities as facilities
 use Rattle.tda_invar.specs.Totals as totals
 use Rattle.tda_records.specs.Records as records
 use Rattle.tda_places.specs.Measurements as measurements
+use Rattle.tda_prices.specs.TablesRead as tables
+use Rattle.tda_prices.specs.PricesText as prices
+use Rattle.tda_out.specs.Counts.{Counts}
 
 -- what the tables are made from: with what is published exactly, a measurement for each unit, query and class
 abbrev pub inputs_by : Schema → Spine → Published → List ℤ → Inputs
@@ -87,3 +90,25 @@ survey_from words given = do
   r ← records_from b (given 3)
   w ← noise_from words (source_of words) (given 4)
   Ok (record { schema = b.schema; spine = b.spine; facilities = b.facilities; records = r; words = w })
+
+-- the tables, or how the program ends
+abbrev pub tables_from : Schema → Spine → Option (List ℕ) → Result Counts Ending
+tables_from s sp given = judged_within written_limit (codes "tables") tables_text (tables.read s sp) given
+
+-- the prices, or how the program ends
+abbrev pub prices_from : Schema → Spine → Option (List ℕ) → Result (List ℤ) Ending
+prices_from s sp given = judged_within written_limit (codes "prices") prices_text (prices.read s sp) given
+
+-- tables and prices, with the inputs that they are judged over
+pub record Case : Type 0 where
+  pub inputs : Inputs
+  pub tables : Counts
+  pub prices : List ℤ
+
+-- what `audit` judges, or how the program ends
+abbrev pub case_from : Given → Result Case Ending
+case_from given = do
+  i ← inputs_from given
+  x ← tables_from i.schema i.spine (given 5)
+  p ← prices_from i.schema i.spine (given 6)
+  Ok (record { inputs = i; tables = x; prices = p })

@@ -9,9 +9,11 @@ use Rattle.tda_invar.specs.declared.tot_fault.TotFault.TheVariants as totals
 use Rattle.tda_invar.specs.declared.join_fault.JoinFault.TheVariants as join
 use Rattle.tda_records.specs.declared.fault.RecFault.TheVariants as records
 use Rattle.tda_places.specs.declared.fault.MeaFault.TheVariants as measurements
+use Rattle.tda_prices.specs.declared.fault.TabFault.TheVariants as tables
+use Rattle.tda_prices.specs.declared.fault.PriFault.TheVariants as prices
 use Rattle.tda_hist.specs.declared.fault.HistFault.{HistFault}
 use Rattle.tda_command.specs.Words.{read_names}
-use Rattle.tda_refusal.specs.Refusal.{plain_text, schema_text, spine_text, facilities_text, totals_text, join_text, records_text, hist_text, measurements_text}
+use Rattle.tda_refusal.specs.Refusal.{plain_text, schema_text, spine_text, facilities_text, totals_text, join_text, records_text, hist_text, measurements_text, tables_text, prices_text}
 use Rattle.tda_refusal.specs.declared.text.Plain.TheVariants.{TooLong, BadLength}
 use Rattle.tda_inputs.specs.Ending.{file_limit, written_limit, seed_length}
 use Rattle.tda_inputs.specs.declared.reading.File.{File}
@@ -27,6 +29,8 @@ name_of file.Records = codes "records"
 name_of file.Measurements = codes "measurements"
 name_of file.Words = codes "words"
 name_of file.Seed = codes "seed"
+name_of file.Tables = codes "tables"
+name_of file.Prices = codes "prices"
 
 -- its place among the files that are read
 abbrev pub place_of_file : File → ℕ
@@ -38,11 +42,15 @@ place_of_file file.Records = 3
 place_of_file file.Measurements = 4
 place_of_file file.Words = 4
 place_of_file file.Seed = 4
+place_of_file file.Tables = 5
+place_of_file file.Prices = 6
 
 -- how many bytes it may have
 abbrev pub limit_of : File → ℕ
 limit_of file.Seed = seed_length
 limit_of file.Measurements = written_limit
+limit_of file.Tables = written_limit
+limit_of file.Prices = written_limit
 limit_of _ = file_limit
 
 -- the words' command reads the file, at its place
@@ -65,6 +73,8 @@ IsOwnFault file.Records t = IsReaderFault records.NoMemory records_text t ⊎ ((
 IsOwnFault file.Measurements t = IsReaderFault measurements.NoMemory measurements_text t
 IsOwnFault file.Words t = t ≡ plain_text BadLength
 IsOwnFault file.Seed t = t ≡ plain_text BadLength
+IsOwnFault file.Tables t = IsReaderFault tables.NoMemory tables_text t
+IsOwnFault file.Prices t = IsReaderFault prices.NoMemory prices_text t
 
 -- the text of a fault of this file
 abbrev pub IsFaultOf : File → List ℕ → Type 0

@@ -21,7 +21,7 @@ use Rattle.tda_words.specs.Words.{words_of, stream_words}
 use Rattle.tda_inputs.specs.Survey.{Survey}
 use Rattle.tda_command.specs.Words.{reads_of, source_of}
 use Rattle.tda_inputs.specs.Ending.{Ending, file_limit, or_refused, judged_within, read_ending, refused_ending}
-use Rattle.tda_inputs.specs.Accepted.{Given, given_by, failing_at, inputs_by, totals_from, records_from, inputs_from, survey_from}
+use Rattle.tda_inputs.specs.Accepted.{Given, given_by, failing_at, inputs_by, totals_from, records_from, inputs_from, survey_from, Case, case_from}
 use Rattle.tda_inputs.specs.Asked.{AsksPrefix, asks_all}
 use Rattle.tda_refusal.specs.Refusal.{plain_text, join_text}
 use Rattle.tda_inputs.specs.Files.{name_of, place_of_file, limit_of, IsRead, IsFaultOf}
@@ -34,6 +34,8 @@ use Rattle.tda_refusal.specs.declared.text.Plain.TheVariants.{TooLong}
 use Rattle.tda_inputs.specs.declared.reading.Stop.{Stop}
 use Rattle.tda_inputs.specs.declared.reading.Stop.TheVariants as stop
 use Rattle.tda_inputs.specs.declared.inputs.Inputs.{Inputs}
+use Rattle.tda_prices.specs.Kept.{PriceList, ArePricesOf}
+use Rattle.tda_inputs.specs.declared.evidence.Evidence.{Evidence}
 use Rattle.tda_inputs.specs.declared.noise.Noise.{Noise}
 use Rattle.tda_inputs.specs.declared.noise.Noise.TheVariants as noise
 use Rattle.tda_inputs.specs.declared.counted.Counted.{Counted}
@@ -217,3 +219,31 @@ pub record IsCounted (v : Survey) (c : Counted) : Type 0 where
 abbrev pub Surveys : List (List ℕ) → Option Shelf → Result Counted Stop → Type 0
 Surveys words shelf (Ok c) = (v : Survey) × IsCounted v c × Gathers words 5 (survey_from words) shelf (Ok v)
 Surveys words shelf (Err e) = Gathers words 5 (survey_from words) shelf (Err e)
+
+-- ---- what is audited
+
+-- the words' command reads the files of a case
+pub record ReadsCase (words : List (List ℕ)) : Type 0 where
+  pub inputs : ReadsInputs words
+  pub tables : IsRead words file.Tables
+  pub prices : IsRead words file.Prices
+
+-- the prices that the file gives
+abbrev pub GivesPrices : List (List ℕ) → (Option (List ℕ) → Result (List ℤ) Ending) → Option Shelf → Result PriceList Stop → Type 0
+GivesPrices words from shelf (Ok p) = GivesBy words file.Prices from shelf (Ok p.numbers)
+GivesPrices words from shelf (Err e) = GivesBy words file.Prices from shelf (Err e)
+
+-- as it is judged
+abbrev pub case_in : Evidence → Case
+case_in e = record { inputs = inputs_in e.inputs; tables = e.tables; prices = e.prices.numbers }
+
+-- it goes together
+pub record IsEvidence (e : Evidence) : Type 0 where
+  pub inputs : AreInputs e.inputs.schema e.inputs.spine e.inputs.invariants e.inputs.measurements
+  pub counts : AreCountsOf e.inputs.schema e.inputs.spine e.tables
+  pub prices : ArePricesOf e.inputs.schema e.inputs.spine e.prices
+
+-- what the files of a case come to
+abbrev pub GathersCase : List (List ℕ) → Option Shelf → Result Evidence Stop → Type 0
+GathersCase words shelf (Ok e) = IsEvidence e × Gathers words 7 case_from shelf (Ok (case_in e))
+GathersCase words shelf (Err x) = Gathers words 7 case_from shelf (Err x)

@@ -32,6 +32,8 @@ pub enum File {
     Measurements,
     Words,
     Seed,
+    Tables,
+    Prices,
 }
 
 impl File {
@@ -51,6 +53,8 @@ impl File {
             File::Measurements => "measurements",
             File::Words => "words",
             File::Seed => "seed",
+            File::Tables => "tables",
+            File::Prices => "prices",
         }
     }
 
@@ -61,7 +65,7 @@ impl File {
     {
         match self {
             File::Seed => SEED,
-            File::Measurements => WRITTEN_LIMIT,
+            File::Measurements | File::Tables | File::Prices => WRITTEN_LIMIT,
             File::Schema
             | File::Spine
             | File::Facilities

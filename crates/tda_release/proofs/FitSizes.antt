@@ -1,5 +1,5 @@
 -- Each fit is within the limits, and so is the largest.
-use Rattle.std.proofs.Common.{ℕ, ◌≡◌, ◌≤◌, ◌<◌, ◌+◌, All, Option, Some, None, List, [], ◌∷◌, map, subst}
+use Rattle.std.proofs.Common.{ℕ, ◌≤◌, ◌<◌, ◌+◌, All, Option, Some, None, List, [], ◌∷◌, map, subst}
 use Rattle.std.proofs.lemmas.List.Elements.{All-contains, All-from_recursion}
 use Rattle.tda_model.specs.Schema.{Schema}
 use Rattle.tda_model.specs.Spine.{Spine, IsTree, IsUnit, level_of, nation_of, parents_of}

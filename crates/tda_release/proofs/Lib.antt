@@ -7,3 +7,5 @@ pub mod Kept
 pub mod Written
 pub mod Certifying
 pub mod Releasing
+pub mod SameTables
+pub mod ReadBack

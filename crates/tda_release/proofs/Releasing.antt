@@ -1,30 +1,39 @@
 -- The fits that a descent hands on are a release, with prices that certify it.
-use Rattle.std.proofs.Common.{◌≡◌, ◌≢◌, ℕ, suc, ◌+◌, ◌*◌, ◌<◌, ◌≤◌, ◌^◌, Option, Some, None, List, [], ◌∷◌, length, map, take, refl, ap, ◌∙◌, subst, arith, take_all}
-use Rattle.std.specs.List.{sum_by}
+use Rattle.std.proofs.Common.{◌≡◌, ◌≢◌, ℕ, suc, ◌+◌, ◌*◌, ◌<◌, ◌≤◌, ◌^◌, Option, Some, None, List, [], ◌∷◌, ◌++◌, length, map, take, refl, sym, ap, ◌∙◌, subst, arith, take_all}
+use Rattle.std.specs.List.{flat_map, sum_by}
 use Rattle.std.proofs.lemmas.List.{length-map}
 use Rattle.std.proofs.lemmas.List.FromFn.{length-range_with_len}
 use Rattle.std.proofs.lemmas.List.Elements.{All-from_recursion, recursion_from_All}
 use Rattle.std.proofs.lemmas.List.Sums.{sum_by-cons, sum_by-le}
-use Rattle.tda_model.specs.Spine.{Spine, IsUnit, IsTree, level_of, nation_of, children_of, parents_of, unit_numbers}
+use Rattle.tda_model.specs.Cells.{cell_count}
+use Rattle.tda_model.specs.Groups.{kind_count}
+use Rattle.tda_model.specs.Spine.{Spine, IsTree, nation_of, children_of, parents_of, unit_numbers}
 use Rattle.tda_model.specs.Tables.{Tables}
 use Rattle.tda_model.specs.Release.{Inputs, CanBe, IsRelease, deviation_at}
 use Rattle.tda_model.proofs.Sums.{Each, sum_le}
 use Rattle.tda_model.proofs.FitOrder.{parents_each, inner_has}
 use Rattle.tda_model.proofs.Releases.{splits_from_order}
-use Rattle.tda_spine.specs.Judged.{fits_of}
+use Rattle.tda_spine.specs.Judged.{IsWithinLimits, fits_of}
 use Rattle.tda_spine.specs.Sound.{IsSound}
+use Rattle.tda_out.specs.Counts.{count_at}
+use Rattle.tda_prices.specs.PricesText as prices
+use Rattle.tda_prices.specs.TablesRead as tables
 use Rattle.tda_loss.specs.declared.Curve.TheVariants.{Square}
 use Rattle.tda_fitnet.specs.Fits.{curve_of}
 use Rattle.tda_descent.specs.declared.fit.Fit.{Fit}
 use Rattle.tda_descent.specs.Fits.{units_of, IsFitOf, IsLeastAt, AreFirstFits}
 use Rattle.tda_descent.proofs.Totals.{units_once}
-use Rattle.tda_audit.specs.Answers.{YesTells}
+use Rattle.tda_audit.specs.Answers.{IsVerdict, YesTells}
+use Rattle.tda_audit.specs.Certified.{Certifies, level_groups}
+use Rattle.tda_audit.specs.declared.verdict.Verdict.TheVariants.{Yes}
 use Rattle.tda_release.specs.Certified.{IsCertifiedRelease, total_deviation}
-use Rattle.tda_release.specs.Texts.{AreHeaders, AreTextsOf}
+use Rattle.tda_release.specs.Texts.{AreHeaders, AreReadBack, AreTextsOf, IsReadBack}
 use Rattle.tda_release.specs.declared.release.Texts.{Texts}
 use Rattle.tda_release.proofs.Squares.{curve_is_square}
-use Rattle.tda_release.proofs.Kept.{HasFits}
-use Rattle.tda_release.proofs.Written.{pricing, all_certified, texts_written}
+use Rattle.tda_release.proofs.Kept.{HasFits, fit_price_rows, fit_rows}
+use Rattle.tda_release.proofs.ReadBack.{HaveTrees, group_cells, levels_nested, prices_back, read_counts, read_prices, read_same, tables_back}
+use Rattle.tda_release.proofs.SameTables.{same_certified}
+use Rattle.tda_release.proofs.Written.{pricing, all_certified, prices_written, read_pricing, tables_written, texts_written}
 use Rattle.tda_release.proofs.Certifying.{certifies}
 
 -- ---- there are no more fits than units
@@ -146,3 +155,26 @@ module _ (i : Inputs) (sound : IsSound i.spine) (fits : List Fit) (first : AreFi
         certified = certifies i sound.tree x prices released (all_certified i sound.tree x fits order first.tables.1) tells;
       } in
       texts_written i sound.tree x fits order first.tables.1 certified total (subst (λ n. n < 2 ^ 128) total small) old new headers has
+
+  -- ---- they are read back
+
+  pub texts_back : YesTells Square i → IsWithinLimits i.schema i.spine → cell_count i.schema ≤ 4096 → kind_count i.schema ≤ 128 → HaveTrees i.schema
+      → (old new : Texts) → AreHeaders old → HasFits i.schema i.spine old fits new → AreReadBack i new
+  texts_back tells within cells kinds trees old new headers has =
+      let price = pricing i sound.tree x fits order first.tables.1 in
+      let certified : Certifies Square i (level_groups i.schema) x price = certifies i sound.tree x price released (all_certified i sound.tree x fits order first.tables.1) tells in
+      let few = tells.few x price ((tells.certified x price).1 certified) in
+      let counts = read_counts i sound cells x few in
+      let numbers = read_prices i sound.tree x fits order first.tables.1 in
+      let again = same_certified Square i (level_groups i.schema) x (count_at counts) price sound.tree (read_same i sound cells x few) (group_cells i sound.tree within.depth trees) certified in
+      record {
+        counts = counts;
+        numbers = numbers;
+        tables_back = subst (λ t. IsReadBack (tables.read i.schema i.spine) t counts)
+            (sym (has.tables ∙ ap (λ t. t ++ flat_map (fit_rows i.schema i.spine) fits) headers.tables ∙ tables_written i sound.tree x fits order first.tables.1))
+            (tables_back i sound cells x few within);
+        prices_back = subst (λ t. IsReadBack (prices.read i.schema i.spine) t numbers)
+            (sym (has.prices ∙ ap (λ t. t ++ flat_map (fit_price_rows i.schema i.spine) fits) headers.prices ∙ prices_written i sound.tree x fits order first.tables.1))
+            (prices_back i sound.tree x fits order first.tables.1 sound cells kinds (levels_nested i.schema trees) within);
+        yes = subst (λ p. IsVerdict Square i (count_at counts) p Yes) (sym (read_pricing i sound.tree x fits order first.tables.1)) ((tells.certified (count_at counts) price).1 again);
+      }

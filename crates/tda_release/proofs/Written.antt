@@ -7,8 +7,7 @@ use Rattle.tda_io.specs.Texts.{row_text}
 use Rattle.tda_model.specs.Spine.{nation_of, parents_of, IsTree}
 use Rattle.tda_model.specs.Tables.{Tables}
 use Rattle.tda_model.specs.TablesText.{tables_header, tables_text}
-use Rattle.tda_model.specs.Deviation.{square}
-use Rattle.tda_model.specs.Release.{Inputs, IsRelease}
+use Rattle.tda_model.specs.Release.{Inputs}
 use Rattle.tda_model.proofs.Sums.{Each}
 use Rattle.tda_spine.specs.Judged.{fits_of}
 use Rattle.tda_out.specs.Written.{units_text, rows_in}
@@ -27,7 +26,7 @@ use Rattle.tda_release.specs.declared.release.Texts.{Texts}
 use Rattle.tda_release.proofs.PriceCounts.{price_nodes}
 use Rattle.tda_release.proofs.Kept.{fit_rows, fit_price_rows, HasFits}
 
-same_flat : {X Y : Type 0} (f g : X → List Y) (xs : List X) → Each (λ x. f x ≡ g x) xs → flat_map f xs ≡ flat_map g xs
+pub same_flat : {X Y : Type 0} (f g : X → List Y) (xs : List X) → Each (λ x. f x ≡ g x) xs → flat_map f xs ≡ flat_map g xs
 same_flat f g [] h = refl
 same_flat f g (x ∷ xs) h = ap (λ t. t ++ flat_map f xs) h.0 ∙ ap (λ t. g x ++ t) (same_flat f g xs h.1)
 
@@ -68,7 +67,7 @@ module _ (i : Inputs) (tree : IsTree i.spine (nation_of i.spine)) (x : Tables) (
   abbrev lists : List (List ℤ)
   lists = map (λ fit. fit.prices.items) fits
 
-  abbrev fit_prices : Option ℕ → List ℤ
+  abbrev pub fit_prices : Option ℕ → List ℤ
   fit_prices f = get_or lists (before same_fit f (fits_of i.spine)) []
 
   abbrev pub pricing : Pricing
@@ -106,6 +105,13 @@ module _ (i : Inputs) (tree : IsTree i.spine (nation_of i.spine)) (x : Tables) (
 
   own_prices : (n : ℕ) → n < length (fits_of i.spine) → prices_of i.schema i.spine pricing (get_or (fits_of i.spine) n None) ≡ fit_prices (get_or (fits_of i.spine) n None)
   own_prices n l = priced_back i.schema i.spine tree fit_prices all_long n l
+
+  -- and the prices that a file of all of them gives are these
+  pub read_pricing : price_in i.schema i.spine (all_prices i.spine (prices_of i.schema i.spine pricing)) ≡ pricing
+  read_pricing =
+      ap (price_in i.schema i.spine)
+      (same_flat (prices_of i.schema i.spine pricing) fit_prices (fits_of i.spine)
+      (recursion_from_All _ (fits_of i.spine) (All-from_get_or (λ f. prices_of i.schema i.spine pricing f ≡ fit_prices f) (fits_of i.spine) None own_prices)))
 
   -- so of those that a pricing gives
   pub each_priced : (P : Option ℕ → List ℤ → Type 0) → Each (λ fit. P fit.parent fit.prices.items) fits → All (λ f. P f (prices_of i.schema i.spine pricing f)) (fits_of i.spine)

@@ -1,14 +1,21 @@
 -- The files of tables and of prices, fit by fit.
-use Rattle.std.specs.Prelude.{ℕ, ◌≡◌, ◌+◌, ◌-◌, ◌^◌, ◌++◌, min}
+use Rattle.std.specs.Prelude.{ℕ, ℤ, ◌≡◌, ◌≤◌, ◌+◌, ◌-◌, ◌^◌, ◌++◌, min, List, length, Ok, Result}
 use Rattle.tda_io.specs.Texts.{row_text}
 use Rattle.tda_model.specs.Schema.{Schema}
 use Rattle.tda_model.specs.Spine.{Spine}
 use Rattle.tda_model.specs.Tables.{Tables}
 use Rattle.tda_model.specs.TablesText.{tables_header, tables_text}
 use Rattle.tda_model.specs.Release.{Inputs}
+use Rattle.tda_out.specs.Counts.{Counts, count_at}
 use Rattle.tda_out.specs.Written.{units_text}
+use Rattle.tda_loss.specs.declared.Curve.TheVariants.{Square}
 use Rattle.tda_prices.specs.Items.{Pricing}
+use Rattle.tda_prices.specs.Priced.{price_in}
+use Rattle.tda_prices.specs.PricesText as prices
 use Rattle.tda_prices.specs.PricesText.{header, fit_text}
+use Rattle.tda_prices.specs.TablesRead as tables
+use Rattle.tda_audit.specs.Answers.{IsVerdict}
+use Rattle.tda_audit.specs.declared.verdict.Verdict.TheVariants.{Yes}
 use Rattle.tda_descent.specs.declared.fit.Fit.{Fit}
 use Rattle.tda_release.specs.Certified.{IsCertifiedRelease, pricing_text, total_deviation}
 use Rattle.tda_release.specs.declared.release.Texts.{Texts}
@@ -37,3 +44,16 @@ pub record AreTextsOf (i : Inputs) (t : Texts) : Type 0 where
   pub tables_are : t.tables.items ≡ tables_text i.schema i.spine tables
   pub prices_are : t.prices.items ≡ pricing_text i price
   pub deviation : t.deviation ≡ total_deviation i tables
+
+-- a text that is no longer than its reader takes, and is read as this value
+pub record IsReadBack {V F : Type 0} (read : List ℕ → Result V F) (text : List ℕ) (value : V) : Type 0 where
+  pub short : length text ≤ 2 ^ 30
+  pub value_is : read text ≡ Ok value
+
+-- both texts are read back, and an audit of what is read answers Yes
+pub record AreReadBack (i : Inputs) (t : Texts) : Type 0 where
+  pub counts : Counts
+  pub numbers : List ℤ
+  pub tables_back : IsReadBack (tables.read i.schema i.spine) t.tables.items counts
+  pub prices_back : IsReadBack (prices.read i.schema i.spine) t.prices.items numbers
+  pub yes : IsVerdict Square i (count_at counts) (price_in i.schema i.spine numbers) Yes

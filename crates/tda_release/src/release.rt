@@ -5,7 +5,7 @@ ghost use Rattle.tda_spine.specs.Judged.{IsWithinLimits, fits_of};
 ghost use Rattle.tda_invar.specs.Known.{IsJoined};
 ghost use Rattle.tda_places.specs.Measurements.{AreMeasurementsOf};
 ghost use Rattle.tda_fitnet.specs.Inputs.{inputs_of};
-ghost use Rattle.tda_release.specs.Texts.{AreTextsOf};
+ghost use Rattle.tda_release.specs.Texts.{AreReadBack, AreTextsOf};
 
 use std::alloc::Global;
 use tda_descent::{Fit, descend};
@@ -83,7 +83,8 @@ fn new_solver(alloc: Global, schema: &Schema, spine: &Spine) -> Result<Scale, No
     Scale::new(alloc, largest.nodes, largest.arcs)
 }
 
-/// The files of a release: at each fit the tables are least ones, as its prices show.
+/// The files of a release: at each fit the tables are least ones, as its prices show. Both files are within the limits of
+/// their readers, and are read back as tables and prices of which an audit says Yes.
 pub fn release_texts(
     alloc: Global,
     schema: &Schema,
@@ -94,14 +95,17 @@ pub fn release_texts(
     requires limits { IsWithinLimits schema.now spine.now }
     requires joined { IsJoined schema.now spine.now invariants.now }
     requires measured { AreMeasurementsOf schema.now spine.now measurements.now }
-    ensures { IfOk result (AreTextsOf (inputs_of schema.now spine.now invariants.now measurements.now)) }
+    ensures texts { IfOk result (AreTextsOf (inputs_of schema.now spine.now invariants.now measurements.now)) }
+    ensures read_back { IfOk result (AreReadBack (inputs_of schema.now spine.now invariants.now measurements.now)) }
 {
     let mut solver = new_solver(alloc, schema, spine)?;
     let loss = Loss::new(Curve::Square, square);
     let mut texts = Texts::new(alloc)?;
-    // The units are a tree, each level's queries are known, and the common denominator is small.
+    // The units are a tree, each level's queries are known, and the common denominator is small, as are cells and kinds.
     let _ = spine.units();
     let _ = schema.levels();
+    let _ = schema.cells();
+    let _ = schema.kinds();
     let _ = schema.common();
     let fitted = descend(
         alloc,

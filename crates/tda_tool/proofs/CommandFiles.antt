@@ -6,7 +6,7 @@ use Rattle.tda_command.specs.declared.words.Command.TheVariants as command
 use Rattle.tda_command.specs.declared.words.Source.{Source}
 use Rattle.tda_command.specs.declared.words.Source.TheVariants as source
 use Rattle.tda_inputs.specs.Files.{name_of, place_of_file, IsRead}
-use Rattle.tda_inputs.specs.Reading.{ReadsInputs, ReadsSurvey, source_path}
+use Rattle.tda_inputs.specs.Reading.{ReadsInputs, ReadsSurvey, ReadsCase, source_path}
 use Rattle.tda_inputs.specs.declared.reading.File.{File}
 use Rattle.tda_inputs.specs.declared.reading.File.TheVariants as file
 use Rattle.tda_tool.specs.Measuring.{Draws}
@@ -47,3 +47,18 @@ survey_reads words command.Run draws is = record {
   source = reads_at words (source_path (source_of words)) command.Run is (source_at (source_of words));
 }
 survey_reads words command.Fit draws is = absurd draws
+survey_reads words command.Audit draws is = absurd draws
+
+-- `audit` reads those of its case
+pub case_reads : (words : List (List ℕ)) → command_of words ≡ Some command.Audit → ReadsCase words
+case_reads words is = record {
+  inputs = record {
+    schema = reads_at words file.Schema command.Audit is refl;
+    spine = reads_at words file.Spine command.Audit is refl;
+    facilities = reads_at words file.Facilities command.Audit is refl;
+    totals = reads_at words file.Totals command.Audit is refl;
+    measurements = reads_at words file.Measurements command.Audit is refl;
+  };
+  tables = reads_at words file.Tables command.Audit is refl;
+  prices = reads_at words file.Prices command.Audit is refl;
+}

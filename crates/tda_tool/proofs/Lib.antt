@@ -3,6 +3,7 @@ pub mod Files
 pub mod Begun
 pub mod Outputs
 pub mod Released
+pub mod Verdicts
 pub mod Ran
 pub mod Writes
 pub mod Surveyed

@@ -10,22 +10,23 @@ use Rattle.tda_tool.specs.Measuring.{Draws}
 use Rattle.tda_inputs.specs.Survey.{Survey}
 use Rattle.tda_command.specs.Words.{command_of, form_in, reads_of, pairs_after, values_in}
 use Rattle.tda_inputs.specs.Ending.{Ending}
-use Rattle.tda_inputs.specs.Accepted.{Given, given_by, failing_at, inputs_from, survey_from}
+use Rattle.tda_inputs.specs.Accepted.{Given, given_by, failing_at, inputs_from, survey_from, Case, case_from}
 use Rattle.tda_tool.specs.Due.{task_by, due_task}
 use Rattle.tda_inputs.specs.Asked.{AsksPrefix, asks_all}
 use Rattle.tda_inputs.specs.Files.{place_of_file}
-use Rattle.tda_inputs.specs.Reading.{Gathers, AsksFiles, CountsRead, GathersInputs, Surveys, IsCounted, noise_words}
-use Rattle.tda_tool.specs.Answer.{Suits, SuitsBy, AnswersStop, AnswersBy, AnswersNoise, AsksBy, AsksPrepared, CountsBy, CountsPrepared, IsFitted, IsDone, HasSurvey, MeasuresWith, RunsWith, StopsWith, StopsAs}
+use Rattle.tda_inputs.specs.Reading.{Gathers, AsksFiles, CountsRead, GathersInputs, GathersCase, Surveys, IsCounted, noise_words}
+use Rattle.tda_tool.specs.Answer.{Suits, SuitsBy, AnswersStop, AnswersBy, AnswersNoise, AsksBy, AsksPrepared, CountsBy, CountsPrepared, IsFitted, IsDone, HasSurvey, HasCase, AuditsBy, IsAudit, MeasuresWith, RunsWith, StopsWith, StopsAs}
 use Rattle.tda_command.specs.declared.words.Command.{Command}
 use Rattle.tda_command.specs.declared.words.Command.TheVariants as command
 use Rattle.tda_inputs.specs.declared.reading.Stop.{Stop}
 use Rattle.tda_inputs.specs.declared.reading.Stop.TheVariants as stop
+use Rattle.tda_inputs.specs.declared.evidence.Evidence.{Evidence}
 use Rattle.tda_inputs.specs.declared.counted.Counted.{Counted}
 use Rattle.tda_tool.specs.declared.answer.Answer.{Answer}
 use Rattle.tda_tool.specs.declared.answer.Cause.{Cause}
 use Rattle.tda_tool.specs.declared.answer.Cause.TheVariants as cause
 use Rattle.tda_inputs.proofs.Asked.{asks_whole}
-use Rattle.tda_tool.proofs.Ran.{fit_task, draw_task, asks_up_to}
+use Rattle.tda_tool.proofs.Ran.{fit_task, draw_task, audit_task, asks_up_to}
 use Rattle.tda_tool.proofs.Surveyed.{measures, runs}
 
 -- what was gathered is what the shelf's files come to
@@ -109,6 +110,10 @@ five_read : (c : Command) → Draws c → (words : List (List ℕ)) → command_
 five_read command.Measure draws words is = subst (λ paths. take 5 paths ≡ paths) (sym (paths_read words command.Measure is)) refl
 five_read command.Run draws words is = subst (λ paths. take 5 paths ≡ paths) (sym (paths_read words command.Run is)) refl
 five_read command.Fit draws words is = absurd draws
+five_read command.Audit draws words is = absurd draws
+
+seven_files : (words : List (List ℕ)) → command_of words ≡ Some command.Audit → take 7 (reads_of words) ≡ reads_of words
+seven_files words is = subst (λ paths. take 7 paths ≡ paths) (sym (paths_read words command.Audit is)) refl
 
 all_of : (names : List (List ℕ)) (n : ℕ) (old new : Option Shelf) → take n names ≡ names → new ≡ option_map (asks_all (take n names)) old → new ≡ option_map (asks_all names) old
 all_of names n old new all asked = asked ∙ ap (λ ns. option_map (asks_all ns) old) all
@@ -141,6 +146,60 @@ fit_done words is old new before now i (Err m) gives asked same done fitted = re
   cause = omega arith;
 }
 
+-- ---- `audit`
+
+audit_tasks : (words : List (List ℕ)) → command_of words ≡ Some command.Audit → (given : Given) (e : Ending) → case_from given ≡ Err e → task_by words given ≡ Err e
+audit_tasks words is given e stops = audit_task words given (Err e) is stops
+
+pub audit_stopped : (words : List (List ℕ)) → command_of words ≡ Some command.Audit → (old new : Option Shelf) (before now : ℕ) (e : Stop) (r : Result Answer NoMemory)
+    → GathersCase words old (Err e) → AsksFiles {X = Evidence} words 7 old new (Err e) → CountsRead {T = Evidence} before now (Err e) → IfOk r (AnswersStop e) → IsPrepared words old new before now r
+audit_stopped words is old new before now (stop.Refused f) r gives asked count answers = stopped_ok Case words 7 case_from (audit_tasks words is) old new before now (stop.Refused f) r gives asked count answers
+audit_stopped words is old new before now (stop.Read f) r gives asked count answers = stopped_ok Case words 7 case_from (audit_tasks words is) old new before now (stop.Read f) r gives asked count answers
+audit_stopped words is old new before now stop.NoMemory r gives asked count answers = stopped_ok Case words 7 case_from (audit_tasks words is) old new before now stop.NoMemory r gives asked count answers
+
+module _ (words : List (List ℕ)) (is : command_of words ≡ Some command.Audit) (old new : Option Shelf) (c : Case) (gives : Gathers words 7 case_from old (Ok c)) where
+  has_case : HasCase words old c
+  has_case = (is, gathered words 7 case_from old c gives)
+
+  case_suits : (k : Cause) (a : Answer) → AuditsBy k c a → SuitsBy k words old a
+  case_suits cause.Done a audits = (command.Audit, (c, has_case, audits))
+  case_suits cause.Against a audits = (c, has_case, audits)
+  case_suits cause.Words a audits = absurd audits
+  case_suits (cause.Refused f) a audits = absurd audits
+  case_suits (cause.Read f) a audits = absurd audits
+  case_suits cause.OutOfWords a audits = absurd audits
+  case_suits cause.TooLarge a audits = absurd audits
+
+  case_asks : (k : Cause) (a : Answer) → AuditsBy k c a → new ≡ option_map (asks_all (take 7 (reads_of words))) old → AsksBy k words old new
+  case_asks cause.Done a audits asked = all_of (reads_of words) 7 old new (seven_files words is) asked
+  case_asks cause.Against a audits asked = all_of (reads_of words) 7 old new (seven_files words is) asked
+  case_asks cause.Words a audits asked = absurd audits
+  case_asks (cause.Refused f) a audits asked = absurd audits
+  case_asks (cause.Read f) a audits asked = absurd audits
+  case_asks cause.OutOfWords a audits asked = absurd audits
+  case_asks cause.TooLarge a audits asked = absurd audits
+
+  case_counts : (k : Cause) (a : Answer) (before now : ℕ) → AuditsBy k c a → now ≡ before → CountsBy k before now
+  case_counts cause.Done a before now audits same = same
+  case_counts cause.Against a before now audits same = same
+  case_counts cause.Words a before now audits same = absurd audits
+  case_counts (cause.Refused f) a before now audits same = absurd audits
+  case_counts (cause.Read f) a before now audits same = absurd audits
+  case_counts cause.OutOfWords a before now audits same = absurd audits
+  case_counts cause.TooLarge a before now audits same = absurd audits
+
+  pub audit_done : (before now : ℕ) (r : Result Answer NoMemory) → new ≡ option_map (asks_all (take 7 (reads_of words))) old → now ≡ before → IfOk r (IsAudit c) → IsPrepared words old new before now r
+  audit_done before now (Ok a) asked same audits = record {
+    suits = case_suits a.cause a audits;
+    asked = case_asks a.cause a audits asked;
+    cause = case_counts a.cause a before now audits same;
+  }
+  audit_done before now (Err m) asked same audits = record {
+    suits = tt;
+    asked = prefix_of (reads_of words) 7 old new (seven_files words is) asked;
+    cause = omega arith;
+  }
+
 -- ---- `measure` and `run`
 
 draw_tasks : (c : Command) → Draws c → (words : List (List ℕ)) → command_of words ≡ Some c → (given : Given) (e : Ending) → survey_from words given ≡ Err e → task_by words given ≡ Err e
@@ -172,6 +231,7 @@ module _ (d : Command) (draws : Draws d) (words : List (List ℕ)) (is : command
 
   noise_suits : (k : Cause) (a : Answer) → IsDetermined (IsNoise (variances_of c.schema c.spine)) → (made a → IsDone d words shelf a) → AnswersBy (made a) k c (noise_words c.noise) a → SuitsBy k words shelf a
   noise_suits cause.Done a one done answers = (d, done answers)
+  noise_suits cause.Against a one done answers = absurd answers
   noise_suits cause.Words a one done answers = absurd answers
   noise_suits (cause.Refused f) a one done answers = absurd answers
   noise_suits (cause.Read f) a one done answers = absurd answers
@@ -180,6 +240,7 @@ module _ (d : Command) (draws : Draws d) (words : List (List ℕ)) (is : command
 
   noise_asks : (k : Cause) (a : Answer) (new : Option Shelf) → AnswersBy (made a) k c (noise_words c.noise) a → new ≡ option_map (asks_all (take 5 (reads_of words))) shelf → AsksBy k words shelf new
   noise_asks cause.Done a new answers asked = all_of (reads_of words) 5 shelf new (five_read d draws words is) asked
+  noise_asks cause.Against a new answers asked = absurd answers
   noise_asks cause.Words a new answers asked = absurd answers
   noise_asks (cause.Refused f) a new answers asked = absurd answers
   noise_asks (cause.Read f) a new answers asked = absurd answers
@@ -188,6 +249,7 @@ module _ (d : Command) (draws : Draws d) (words : List (List ℕ)) (is : command
 
   noise_counts : (k : Cause) (a : Answer) (before now : ℕ) → AnswersBy (made a) k c (noise_words c.noise) a → now ≡ before → CountsBy k before now
   noise_counts cause.Done a before now answers same = same
+  noise_counts cause.Against a before now answers same = absurd answers
   noise_counts cause.Words a before now answers same = same
   noise_counts (cause.Refused f) a before now answers same = same
   noise_counts (cause.Read f) a before now answers same = absurd answers

@@ -1,5 +1,5 @@
 -- What a run leaves tells what the top call answers.
-use Rattle.std.proofs.Common.{◌≡◌, ◌≢◌, ◌∙◌, ◌++◌, ◌∷◌, ◌+◌, ◌-◌, ◌⊎◌, [], List, ℕ, ℤ, length, take, refl, sym, ap, subst, Option, Some, None, IfSome, option_map, inl, inr, Result, Ok, Err, slice_index_or, arith}
+use Rattle.std.proofs.Common.{◌≡◌, ◌≢◌, ◌∙◌, ◌++◌, ◌∷◌, ◌+◌, ◌-◌, ◌⊎◌, [], List, ℕ, ℤ, length, map, take, refl, sym, ap, subst, Option, Some, None, IfSome, option_map, inl, inr, Result, Ok, Err, slice_index_or, arith}
 use Rattle.std.specs.Result.{IfOk}
 use Rattle.std.proofs.lemmas.List.{length-map}
 use Rattle.tda_io.specs.Due.{◌>>=◌}
@@ -20,15 +20,18 @@ use Rattle.tda_release.specs.Certified.{pricing_text}
 use Rattle.tda_inputs.specs.Survey.{Survey}
 use Rattle.tda_tool.specs.Measuring.{Draws, WordsSuffice, state_counts, noise_ending, stop_ending, measured_ending, MeasureEnds}
 use Rattle.tda_command.specs.Words.{command_of, form_in, reads_of, writes_of, read_names, write_names, pairs_after, values_in, dash}
+use Rattle.tda_tool.specs.Auditing.{verdict_on, audit_ending, ending_by, no_ending}
+use Rattle.tda_audit.specs.declared.verdict.Verdict.{Verdict}
+use Rattle.tda_audit.specs.declared.verdict.Verdict.TheVariants.{Yes, Sum, Impossible, Total, Kind, Arc}
 use Rattle.tda_tool.specs.Running.{run_inputs, measured_by, ran_ending, EndsRun, RunEnds}
 use Rattle.tda_inputs.specs.Ending.{Ending, refused_ending}
 use Rattle.tda_tool.specs.Ending.{words_ending}
-use Rattle.tda_inputs.specs.Accepted.{Given, inputs_from, survey_from, given_by}
-use Rattle.tda_tool.specs.Due.{Task, Fits, Measures, Runs, EndsBy, Due, IsDue, IsDueStatus, task_of, task_by, due_task, Suffices, IsComplete}
-use Rattle.tda_tool.specs.Outcome.{IsSettled, whole, Leaves, LeavesAll, ReportsDue, FitWrote, MeasureWrote, RunWrote, NoiseStopped, FileRefused, ReadFailed, BeginsPrefix, BeginsWhenDue}
+use Rattle.tda_inputs.specs.Accepted.{Given, Case, inputs_from, survey_from, case_from, given_by}
+use Rattle.tda_tool.specs.Due.{Task, Fits, Measures, Runs, Audits, EndsBy, Due, IsDue, IsDueStatus, task_of, task_by, due_task, Suffices, IsComplete}
+use Rattle.tda_tool.specs.Outcome.{IsSettled, whole, Leaves, LeavesAll, ReportsDue, FitWrote, MeasureWrote, RunWrote, AuditYes, AuditNo, NoiseStopped, FileRefused, ReadFailed, BeginsPrefix, BeginsWhenDue}
 use Rattle.tda_inputs.specs.Asked.{asks_all, AsksPrefix}
 use Rattle.tda_inputs.specs.Files.{name_of, place_of_file, IsRead}
-use Rattle.tda_tool.specs.Answer.{status_by, Suits, SuitsBy, IsDone, HasInputs, HasSurvey, IsFitted, IsMeasured, IsRun, StopsAs, RefusesFile, FailsAt, ReportsAlone, WritesNames, Asks, AsksBy, CountsBy, CountsRun, files_of, target_of, targets_of, status_of}
+use Rattle.tda_tool.specs.Answer.{status_by, Suits, SuitsBy, IsDone, HasInputs, HasSurvey, HasCase, IsFitted, IsMeasured, IsRun, StopsAs, RefusesFile, FailsAt, ReportsAlone, WritesNames, Asks, AsksBy, CountsBy, CountsRun, files_of, target_of, targets_of, status_of}
 use Rattle.tda_command.specs.declared.words.Command.{Command}
 use Rattle.tda_command.specs.declared.words.Command.TheVariants as command
 use Rattle.tda_inputs.specs.declared.reading.File.{File}
@@ -70,6 +73,7 @@ abbrev pub drawing : (c : Command) → Draws c → Survey → Task
 drawing command.Measure draws v = Measures v
 drawing command.Run draws v = Runs v
 drawing command.Fit draws v = absurd draws
+drawing command.Audit draws v = absurd draws
 
 abbrev to_draw : (c : Command) → Draws c → Result Survey Ending → Result Task Ending
 to_draw c draws r = r >>= (λ v. Ok (drawing c draws v))
@@ -81,6 +85,13 @@ pub draw_task : (c : Command) (draws : Draws c) (words : List (List ℕ)) (given
 draw_task command.Measure draws words given r is held = ap (task_if words given) is ∙ ap (to_draw command.Measure draws) held
 draw_task command.Run draws words given r is held = ap (task_if words given) is ∙ ap (to_draw command.Run draws) held
 draw_task command.Fit draws words given r is held = absurd draws
+draw_task command.Audit draws words given r is held = absurd draws
+
+abbrev to_audit : Result Case Ending → Result Task Ending
+to_audit r = r >>= (λ c. Ok (Audits c))
+
+pub audit_task : (words : List (List ℕ)) (given : Given) (r : Result Case Ending) → command_of words ≡ Some command.Audit → case_from given ≡ r → task_by words given ≡ to_audit r
+audit_task words given r is held = ap (task_if words given) is ∙ ap to_audit held
 
 words_task : (words : List (List ℕ)) (given : Given) → command_of words ≡ None → task_by words given ≡ Err words_ending
 words_task words given is = ap (task_if words given) is
@@ -146,6 +157,21 @@ stops_due : (c : Command) → Draws c → (words : List (List ℕ)) (s : Shelf) 
 stops_due command.Measure draws words s v has why rest is = survey_due words s v has (Err why) rest is
 stops_due command.Run draws words s v has why rest is = run_stops words s v has why rest is
 stops_due command.Fit draws words s v has why rest is = absurd draws
+stops_due command.Audit draws words s v has why rest is = absurd draws
+
+-- ---- `audit`: how it ends by its verdict
+
+case_due : (words : List (List ℕ)) (s : Shelf) (c : Case) → HasCase words (Some s) c → IsDue words s.holds (audit_ending c)
+case_due words s c has = due_from words s.holds (Ok (Audits c)) _ (audit_task words (given_by words s.holds) (Ok c) has.0 has.1) refl (λ d h. h)
+
+-- the report of a condition that fails is due
+no_due : (c : Case) (v : Verdict) → v ≢ Yes → ending_by v c ≡ no_ending c.inputs.schema c.inputs.spine v
+no_due c Yes differs = absurd (differs refl)
+no_due c (Sum u j) differs = refl
+no_due c (Impossible u j) differs = refl
+no_due c (Total st) differs = refl
+no_due c (Kind u k) differs = refl
+no_due c (Arc fit arc side) differs = refl
 
 -- the ending that is due where the answer has this status, and the report alone but for status 0
 record DueAnswer (words : List (List ℕ)) (holds : List ℕ → Option (List ℕ)) (status : ℕ) (a : Answer) : Type 0 where
@@ -167,6 +193,14 @@ done_due command.Measure words s a done = record {
   status_is = refl;
   alone = λ some. absurd (some refl);
 }
+done_due command.Audit words s a done =
+    let c = done.0 in
+    record {
+      ending = audit_ending c;
+      due = case_due words s c done.1;
+      status_is = ap (λ v. (ending_by v c).status) done.2.certified.yes;
+      alone = λ some. absurd (some refl);
+    }
 done_due command.Run words s a done =
     let v = done.0 in
     let made = done.2 in
@@ -189,6 +223,15 @@ stop_due words s status a is = record {
 
 suits_due : (k : Cause) (words : List (List ℕ)) (s : Shelf) (a : Answer) → SuitsBy k words (Some s) a → status_by k ≢ 4 → DueAnswer words s.holds (status_by k) a
 suits_due cause.Done words s a suits calm = done_due suits.0 words s a suits.1
+suits_due cause.Against words s a suits calm =
+    let c = suits.0 in
+    let same = no_due c (verdict_on c) suits.2.uncertified.no in
+    record {
+      ending = audit_ending c;
+      due = case_due words s c suits.1;
+      status_is = ap (λ e. e.status) same;
+      alone = λ some. subst (λ e. ReportsAlone e a) (sym same) suits.2.alone;
+    }
 suits_due cause.Words words s a suits calm = record {
   ending = words_ending;
   due = due_early words s.holds words_ending (words_task words (given_by words s.holds) suits.0);
@@ -231,10 +274,12 @@ reads_for words o is = ap (λ x. (form_in words x).reads) is
 done_names : (c : Command) (words : List (List ℕ)) (shelf : Option Shelf) (a : Answer) → IsDone c words shelf a → names_in a.outputs.items ≡ write_names words
 done_names command.Fit words shelf a done = done.2.outputs.names_are ∙ sym (writes_for words command.Fit done.1.0)
 done_names command.Measure words shelf a done = done.2.tells.outputs.names_are ∙ sym (writes_for words command.Measure done.1.is)
+done_names command.Audit words shelf a done = ap (map (λ o. o.name.now)) done.2.alone.outputs ∙ sym (writes_for words command.Audit done.1.0)
 done_names command.Run words shelf a done = done.2.tells.outputs.names_are ∙ sym (writes_for words command.Run done.1.is)
 
 pub writes_names_by : (k : Cause) (words : List (List ℕ)) (shelf : Option Shelf) (a : Answer) → SuitsBy k words shelf a → WritesNames words a
 writes_names_by cause.Done words shelf a suits = inr (done_names suits.0 words shelf a suits.1)
+writes_names_by cause.Against words shelf a suits = inl suits.2.alone.outputs
 writes_names_by cause.Words words shelf a suits = inl suits.1.outputs
 writes_names_by (cause.Refused f) words shelf a suits = inl suits.alone.outputs
 writes_names_by (cause.Read f) words shelf a suits = inl suits.alone.outputs
@@ -257,6 +302,7 @@ done_status words (Some s) a suits = let d = done_due suits.0 words s a suits.1 
 pub begun_when_due : (k : Cause) (words : List (List ℕ)) (shelf : Option Shelf) (a : Answer) (before now : ℕ) (old new : Option Tray) → SuitsBy k words shelf a → CountsBy k before now
     → BeginsPrefix (targets_of words a) old new → BeginsWhenDue words shelf before now old new
 begun_when_due cause.Done words shelf a before now old new suits count begun = inr (count, done_status words shelf a suits)
+begun_when_due cause.Against words shelf a before now old new suits count begun = inl (alone_begun words _ a old new suits.2.alone begun)
 begun_when_due cause.Words words shelf a before now old new suits count begun = inl (alone_begun words _ a old new suits.1 begun)
 begun_when_due (cause.Refused f) words shelf a before now old new suits count begun = inl (alone_begun words _ a old new suits.alone begun)
 begun_when_due (cause.Read f) words shelf a before now old new suits count begun = inl (alone_begun words _ a old new suits.alone begun)
@@ -335,27 +381,52 @@ fit_no_run o a b = cc (a, b)
 measure_no_run : (o : Option Command) → o ≡ Some command.Measure → o ≡ Some command.Run → ⊥
 measure_no_run o a b = cc (a, b)
 
+fit_no_audit : (o : Option Command) → o ≡ Some command.Fit → o ≡ Some command.Audit → ⊥
+fit_no_audit o a b = cc (a, b)
+
+measure_no_audit : (o : Option Command) → o ≡ Some command.Measure → o ≡ Some command.Audit → ⊥
+measure_no_audit o a b = cc (a, b)
+
+run_no_audit : (o : Option Command) → o ≡ Some command.Run → o ≡ Some command.Audit → ⊥
+run_no_audit o a b = cc (a, b)
+
 done_fit : (c : Command) (words : List (List ℕ)) (s : Shelf) (a : Answer) (old new : Option Tray) → IsDone c words (Some s) a → Leaves (files_of words a) old new → command_of words ≡ Some command.Fit
     → FitWrote words s.holds old new
 done_fit command.Fit words s a old new done left is = wrote_tables words s a old new done.0 done.1 done.2 left
 done_fit command.Measure words s a old new done left is = absurd (fit_no_measure (command_of words) is done.1.is)
 done_fit command.Run words s a old new done left is = absurd (fit_no_run (command_of words) is done.1.is)
+done_fit command.Audit words s a old new done left is = absurd (fit_no_audit (command_of words) is done.1.0)
 
 done_measure : (c : Command) (words : List (List ℕ)) (s : Shelf) (a : Answer) (old new : Option Tray) → IsDone c words (Some s) a → Leaves (files_of words a) old new → command_of words ≡ Some command.Measure
     → MeasureWrote words s.holds old new
 done_measure command.Fit words s a old new done left is = absurd (fit_no_measure (command_of words) done.1.0 is)
 done_measure command.Measure words s a old new done left is = wrote_measured words s a old new done.0 done.1 done.2 left
 done_measure command.Run words s a old new done left is = absurd (measure_no_run (command_of words) is done.1.is)
+done_measure command.Audit words s a old new done left is = absurd (measure_no_audit (command_of words) is done.1.0)
 
 done_run : (c : Command) (words : List (List ℕ)) (s : Shelf) (a : Answer) (old new : Option Tray) → IsDone c words (Some s) a → Leaves (files_of words a) old new → command_of words ≡ Some command.Run
     → RunWrote words s.holds old new
 done_run command.Fit words s a old new done left is = absurd (fit_no_run (command_of words) done.1.0 is)
 done_run command.Measure words s a old new done left is = absurd (measure_no_run (command_of words) done.1.is is)
 done_run command.Run words s a old new done left is = wrote_run words s a old new done.0 done.1 done.2 left
+done_run command.Audit words s a old new done left is = absurd (run_no_audit (command_of words) is done.1.0)
+
+done_audit : (c : Command) (words : List (List ℕ)) (s : Shelf) (a : Answer) (old new : Option Tray) → IsDone c words (Some s) a → Leaves (files_of words a) old new → command_of words ≡ Some command.Audit
+    → AuditYes words s.holds old new
+done_audit command.Fit words s a old new done left is = absurd (fit_no_audit (command_of words) done.1.0 is)
+done_audit command.Measure words s a old new done left is = absurd (measure_no_audit (command_of words) done.1.is is)
+done_audit command.Run words s a old new done left is = absurd (run_no_audit (command_of words) done.1.is is)
+done_audit command.Audit words s a old new done left is = record {
+  case = done.0;
+  accepted = done.1.1;
+  certified = done.2.certified;
+  written = report_alone words _ a old new done.2.alone left;
+}
 
 fit_wrote_by : (k : Cause) (words : List (List ℕ)) (s : Shelf) (a : Answer) (old new : Option Tray) → SuitsBy k words (Some s) a → Leaves (files_of words a) old new → status_by k ≡ 0
     → command_of words ≡ Some command.Fit → FitWrote words s.holds old new
 fit_wrote_by cause.Done words s a old new suits left zero is = done_fit suits.0 words s a old new suits.1 left is
+fit_wrote_by cause.Against words s a old new suits left zero is = cc zero
 fit_wrote_by cause.Words words s a old new suits left zero is = cc zero
 fit_wrote_by (cause.Refused f) words s a old new suits left zero is = cc zero
 fit_wrote_by (cause.Read f) words s a old new suits left zero is = cc zero
@@ -365,6 +436,7 @@ fit_wrote_by cause.TooLarge words s a old new suits left zero is = cc zero
 measure_wrote_by : (k : Cause) (words : List (List ℕ)) (s : Shelf) (a : Answer) (old new : Option Tray) → SuitsBy k words (Some s) a → Leaves (files_of words a) old new → status_by k ≡ 0
     → command_of words ≡ Some command.Measure → MeasureWrote words s.holds old new
 measure_wrote_by cause.Done words s a old new suits left zero is = done_measure suits.0 words s a old new suits.1 left is
+measure_wrote_by cause.Against words s a old new suits left zero is = cc zero
 measure_wrote_by cause.Words words s a old new suits left zero is = cc zero
 measure_wrote_by (cause.Refused f) words s a old new suits left zero is = cc zero
 measure_wrote_by (cause.Read f) words s a old new suits left zero is = cc zero
@@ -374,11 +446,52 @@ measure_wrote_by cause.TooLarge words s a old new suits left zero is = cc zero
 run_wrote_by : (k : Cause) (words : List (List ℕ)) (s : Shelf) (a : Answer) (old new : Option Tray) → SuitsBy k words (Some s) a → Leaves (files_of words a) old new → status_by k ≡ 0
     → command_of words ≡ Some command.Run → RunWrote words s.holds old new
 run_wrote_by cause.Done words s a old new suits left zero is = done_run suits.0 words s a old new suits.1 left is
+run_wrote_by cause.Against words s a old new suits left zero is = cc zero
 run_wrote_by cause.Words words s a old new suits left zero is = cc zero
 run_wrote_by (cause.Refused f) words s a old new suits left zero is = cc zero
 run_wrote_by (cause.Read f) words s a old new suits left zero is = cc zero
 run_wrote_by cause.OutOfWords words s a old new suits left zero is = cc zero
 run_wrote_by cause.TooLarge words s a old new suits left zero is = cc zero
+
+yes_by : (k : Cause) (words : List (List ℕ)) (s : Shelf) (a : Answer) (old new : Option Tray) → SuitsBy k words (Some s) a → Leaves (files_of words a) old new → status_by k ≡ 0
+    → command_of words ≡ Some command.Audit → AuditYes words s.holds old new
+yes_by cause.Done words s a old new suits left zero is = done_audit suits.0 words s a old new suits.1 left is
+yes_by cause.Against words s a old new suits left zero is = cc zero
+yes_by cause.Words words s a old new suits left zero is = cc zero
+yes_by (cause.Refused f) words s a old new suits left zero is = cc zero
+yes_by (cause.Read f) words s a old new suits left zero is = cc zero
+yes_by cause.OutOfWords words s a old new suits left zero is = cc zero
+yes_by cause.TooLarge words s a old new suits left zero is = cc zero
+
+pub audit_yes : (words : List (List ℕ)) (shelf : Option Shelf) (r : Run) (old new : Option Tray) → IfOk r (Suits words shelf) → IfOk r (λ a. Leaves (files_of words a) old new)
+    → status_of r ≡ 0 → command_of words ≡ Some command.Audit → IfSome shelf (λ s. AuditYes words s.holds old new)
+audit_yes words None r old new suits left zero is = tt
+audit_yes words (Some s) (Ok a) old new suits left zero is = yes_by a.cause words s a old new suits left zero is
+audit_yes words (Some s) (Err fault_out.Failed) old new suits left zero is = cc zero
+audit_yes words (Some s) (Err fault_out.NoMemory) old new suits left zero is = cc zero
+
+no_by : (k : Cause) (words : List (List ℕ)) (shelf shelf_new : Option Shelf) (a : Answer) (old new : Option Tray) → SuitsBy k words shelf a → AsksBy k words shelf shelf_new
+    → Leaves (files_of words a) old new → status_by k ≡ 1 → AuditNo words shelf shelf_new old new
+no_by cause.Done words shelf shelf_new a old new suits asked left one = cc one
+no_by cause.Against words shelf shelf_new a old new suits asked left one = record {
+  is = suits.1.0;
+  asked = asked;
+  case = suits.0;
+  accepted = suits.1.1;
+  uncertified = suits.2.uncertified;
+  written = report_alone words _ a old new suits.2.alone left;
+}
+no_by cause.Words words shelf shelf_new a old new suits asked left one = cc one
+no_by (cause.Refused f) words shelf shelf_new a old new suits asked left one = cc one
+no_by (cause.Read f) words shelf shelf_new a old new suits asked left one = cc one
+no_by cause.OutOfWords words shelf shelf_new a old new suits asked left one = cc one
+no_by cause.TooLarge words shelf shelf_new a old new suits asked left one = cc one
+
+pub audit_no : (words : List (List ℕ)) (r : Run) (shelf shelf_new : Option Shelf) (old new : Option Tray) → IfOk r (Suits words shelf) → IfOk r (Asks words shelf shelf_new)
+    → IfOk r (λ a. Leaves (files_of words a) old new) → status_of r ≡ 1 → AuditNo words shelf shelf_new old new
+audit_no words (Ok a) shelf shelf_new old new suits asked left one = no_by a.cause words shelf shelf_new a old new suits asked left one
+audit_no words (Err fault_out.Failed) shelf shelf_new old new suits asked left one = cc one
+audit_no words (Err fault_out.NoMemory) shelf shelf_new old new suits asked left one = cc one
 
 pub fit_wrote : (words : List (List ℕ)) (shelf : Option Shelf) (r : Run) (old new : Option Tray) → IfOk r (Suits words shelf) → IfOk r (λ a. Leaves (files_of words a) old new)
     → status_of r ≡ 0 → command_of words ≡ Some command.Fit → IfSome shelf (λ s. FitWrote words s.holds old new)
@@ -412,6 +525,7 @@ wrote_all words a old new names left = record {
 all_written_by : (k : Cause) (words : List (List ℕ)) (shelf : Option Shelf) (a : Answer) (old new : Option Tray) → SuitsBy k words shelf a → Leaves (files_of words a) old new → status_by k ≡ 0
     → LeavesAll (writes_of words) old new
 all_written_by cause.Done words shelf a old new suits left zero = wrote_all words a old new (done_names suits.0 words shelf a suits.1) left
+all_written_by cause.Against words shelf a old new suits left zero = cc zero
 all_written_by cause.Words words shelf a old new suits left zero = cc zero
 all_written_by (cause.Refused f) words shelf a old new suits left zero = cc zero
 all_written_by (cause.Read f) words shelf a old new suits left zero = cc zero
@@ -441,6 +555,7 @@ refused_file words f shelf shelf_new a old new suits asked left = record {
 refused_by : (k : Cause) (words : List (List ℕ)) (shelf shelf_new : Option Shelf) (a : Answer) (old new : Option Tray) → SuitsBy k words shelf a → AsksBy k words shelf shelf_new
     → Leaves (files_of words a) old new → status_by k ≡ 3 → FileRefused words shelf shelf_new old new
 refused_by cause.Done words shelf shelf_new a old new suits asked left three = cc three
+refused_by cause.Against words shelf shelf_new a old new suits asked left three = cc three
 refused_by cause.Words words shelf shelf_new a old new suits asked left three = cc three
 refused_by (cause.Refused f) words shelf shelf_new a old new suits asked left three = refused_file words f shelf shelf_new a old new suits asked left
 refused_by (cause.Read f) words shelf shelf_new a old new suits asked left three = cc three
@@ -466,6 +581,7 @@ read_file words f shelf shelf_new a old new suits asked left = record {
 failed_by : (k : Cause) (words : List (List ℕ)) (shelf shelf_new : Option Shelf) (a : Answer) (old new : Option Tray) → SuitsBy k words shelf a → AsksBy k words shelf shelf_new
     → Leaves (files_of words a) old new → status_by k ≡ 4 → ReadFailed words shelf shelf_new old new
 failed_by cause.Done words shelf shelf_new a old new suits asked left four = cc four
+failed_by cause.Against words shelf shelf_new a old new suits asked left four = cc four
 failed_by cause.Words words shelf shelf_new a old new suits asked left four = cc four
 failed_by (cause.Refused f) words shelf shelf_new a old new suits asked left four = cc four
 failed_by (cause.Read f) words shelf shelf_new a old new suits asked left four = read_file words f shelf shelf_new a old new suits asked left
@@ -497,6 +613,8 @@ stopped_by : (k : Cause) (words : List (List ℕ)) (shelf shelf_new : Option She
     → Leaves (files_of words a) old new → (status_by k ≡ 6) ⊎ (status_by k ≡ 7) → NoiseStopped words (status_by k) shelf shelf_new old new
 stopped_by cause.Done words shelf shelf_new a old new suits asked left (inl e) = cc e
 stopped_by cause.Done words shelf shelf_new a old new suits asked left (inr e) = cc e
+stopped_by cause.Against words shelf shelf_new a old new suits asked left (inl e) = cc e
+stopped_by cause.Against words shelf shelf_new a old new suits asked left (inr e) = cc e
 stopped_by cause.Words words shelf shelf_new a old new suits asked left (inl e) = cc e
 stopped_by cause.Words words shelf shelf_new a old new suits asked left (inr e) = cc e
 stopped_by (cause.Refused f) words shelf shelf_new a old new suits asked left (inl e) = cc e
@@ -532,6 +650,7 @@ asks_up_to words f old new reads asked =
 
 pub asks_by : (k : Cause) (words : List (List ℕ)) (shelf old new : Option Shelf) (a : Answer) → SuitsBy k words shelf a → AsksBy k words old new → AsksPrefix (reads_of words) old new
 asks_by cause.Done words shelf old new a suits asked = asks_whole _ old new asked
+asks_by cause.Against words shelf old new a suits asked = asks_whole _ old new asked
 asks_by cause.Words words shelf old new a suits asked = asks_nothing _ old new asked
 asks_by (cause.Refused f) words shelf old new a suits asked = asks_up_to words f old new suits.reads asked
 asks_by (cause.Read f) words shelf old new a suits asked = asks_up_to words f old new suits.reads asked
@@ -545,6 +664,7 @@ drawing_suffices : (c : Command) (draws : Draws c) (v : Survey) → Suffices (dr
 drawing_suffices command.Measure draws v enough = enough
 drawing_suffices command.Run draws v enough = enough
 drawing_suffices command.Fit draws v enough = absurd draws
+drawing_suffices command.Audit draws v enough = absurd draws
 
 -- then the noise doesn't stop
 never_stops : (status : ℕ) (words : List (List ℕ)) (s : Shelf) (a : Answer) → IsComplete words s.holds → StopsAs status words (Some s) a → ⊥
@@ -560,6 +680,10 @@ never_stops status words s a complete is =
 
 complete_by : (k : Cause) (words : List (List ℕ)) (s : Shelf) (a : Answer) (before now : ℕ) → SuitsBy k words (Some s) a → CountsBy k before now → now ≡ before → IsComplete words s.holds → status_by k ≡ 0
 complete_by cause.Done words s a before now suits count same complete = refl
+complete_by cause.Against words s a before now suits count same complete =
+    let task = audit_task words (given_by words s.holds) (Ok suits.0) suits.1.0 suits.1.1 in
+    let is : complete.task ≡ Audits suits.0 = cc (task, complete.accepted) in
+    absurd (suits.2.uncertified.uncertified (subst Suffices is complete.enough))
 complete_by cause.Words words s a before now suits count same complete = cc (words_task words (given_by words s.holds) suits.0, complete.accepted)
 complete_by (cause.Refused f) words s a before now suits count same complete = cc (suits.due, complete.accepted)
 complete_by (cause.Read f) words s a before now suits count same complete = absurd (omega arith)

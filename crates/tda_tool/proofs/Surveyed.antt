@@ -25,15 +25,15 @@ use Rattle.tda_tool.specs.Answer.{Tells, TellsRun, MeasuresWith, RunsWith, CanBe
 use Rattle.tda_inputs.specs.declared.counted.Counted.{Counted}
 use Rattle.tda_tool.specs.declared.answer.Answer.{Answer}
 
-each_append : {X : Type 0} (P : X → Type 0) (xs ys : List X) → Each P xs → Each P ys → Each P (xs ++ ys)
+pub each_append : {X : Type 0} (P : X → Type 0) (xs ys : List X) → Each P xs → Each P ys → Each P (xs ++ ys)
 each_append P [] ys h k = k
 each_append P (x ∷ xs) ys (here, later) k = (here, each_append P xs ys later k)
 
-each_flat : {X A : Type 0} (P : A → Type 0) (f : X → List A) (xs : List X) → Each (λ x. Each P (f x)) xs → Each P (flat_map f xs)
+pub each_flat : {X A : Type 0} (P : A → Type 0) (f : X → List A) (xs : List X) → Each (λ x. Each P (f x)) xs → Each P (flat_map f xs)
 each_flat P f [] h = tt
 each_flat P f (x ∷ xs) (here, later) = each_append P (f x) (flat_map f xs) here (each_flat P f xs later)
 
-each_map : {X A : Type 0} (P : A → Type 0) (f : X → A) (xs : List X) → Each (λ x. P (f x)) xs → Each P (map f xs)
+pub each_map : {X A : Type 0} (P : A → Type 0) (f : X → A) (xs : List X) → Each (λ x. P (f x)) xs → Each P (map f xs)
 each_map P f [] h = tt
 each_map P f (x ∷ xs) (here, later) = (here, each_map P f xs later)
 
@@ -41,10 +41,10 @@ map_same : {X A : Type 0} (f g : X → A) (xs : List X) → Each (λ x. f x ≡ 
 map_same f g [] h = refl
 map_same f g (x ∷ xs) (here, later) = ap (λ y. y ∷ map f xs) here ∙ ap (λ ys. g x ∷ ys) (map_same f g xs later)
 
-kept : {X : Type 0} (P : X → Type 0) (p : X → Bool) (xs : List X) → Each P xs → Each P (filter p xs)
+pub kept : {X : Type 0} (P : X → Type 0) (p : X → Bool) (xs : List X) → Each P xs → Each P (filter p xs)
 kept P p xs h = each_filter P p xs (each_weaker P (λ x. p x ≡ true → P x) xs (λ x y e. y) h)
 
-each_unit : (P : ℕ → Type 0) (sp : Spine) (level : ℕ) → ((u : ℕ) → IsUnit sp u → P u) → Each P (units_at sp level)
+pub each_unit : (P : ℕ → Type 0) (sp : Spine) (level : ℕ) → ((u : ℕ) → IsUnit sp u → P u) → Each P (units_at sp level)
 each_unit P sp level h = kept P (is_at sp level) (unit_numbers sp) (each_range P 0 (length sp.units) (λ u low high. h u (omega arith)))
 
 -- tables with the same count for each unit and cell

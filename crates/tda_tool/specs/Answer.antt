@@ -34,9 +34,10 @@ use Rattle.tda_tool.specs.Measuring.{Draws, state_counts, stop_ending, measured_
 use Rattle.tda_command.specs.Words.{command_of, pairs_after, value_or_empty, reads_of, write_names, dash}
 use Rattle.tda_inputs.specs.Ending.{Ending, refused_ending, read_ending}
 use Rattle.tda_tool.specs.Ending.{words_ending, run_ending}
-use Rattle.tda_inputs.specs.Accepted.{inputs_by, inputs_from, survey_from, given_by, failing_at}
+use Rattle.tda_inputs.specs.Accepted.{Case, inputs_by, inputs_from, survey_from, case_from, given_by, failing_at}
 use Rattle.tda_tool.specs.Due.{task_by, due_task}
-use Rattle.tda_tool.specs.Outcome.{whole}
+use Rattle.tda_tool.specs.Outcome.{whole, IsCertifiedCase, IsUncertifiedCase}
+use Rattle.tda_tool.specs.Auditing.{tables_in, verdict_on, yes_ending, no_ending}
 use Rattle.tda_inputs.specs.Asked.{asks_all, AsksPrefix}
 use Rattle.tda_inputs.specs.Files.{name_of, place_of_file, IsRead, IsFaultOf}
 use Rattle.tda_inputs.specs.Reading.{IsSource, AreEnough}
@@ -54,6 +55,7 @@ use Rattle.tda_tool.specs.declared.answer.Answer.{Answer}
 
 abbrev pub status_by : Cause → ℕ
 status_by cause.Done = 0
+status_by cause.Against = 1
 status_by cause.Words = 2
 status_by (cause.Refused f) = 3
 status_by (cause.Read f) = 4
@@ -210,10 +212,33 @@ pub record HasSurvey (c : Command) (words : List (List ℕ)) (shelf : Option She
   pub held : IfSome shelf (λ s. survey_from words (given_by words s.holds) ≡ Ok v)
   pub one : IsDetermined (IsNoise (variances_of v.schema v.spine))
 
+-- the case that the inbox holds
+abbrev pub HasCase : List (List ℕ) → Option Shelf → Case → Type 0
+HasCase words shelf c = (command_of words ≡ Some command.Audit) × IfSome shelf (λ s. case_from (given_by words s.holds) ≡ Ok c)
+
+-- the report of a yes, and that of the first condition that fails
+pub record IsYes (c : Case) (a : Answer) : Type 0 where
+  pub certified : IsCertifiedCase c
+  pub alone : ReportsAlone (yes_ending c.inputs.spine (total_deviation c.inputs (tables_in c))) a
+
+pub record IsNo (c : Case) (a : Answer) : Type 0 where
+  pub uncertified : IsUncertifiedCase c
+  pub alone : ReportsAlone (no_ending c.inputs.schema c.inputs.spine (verdict_on c)) a
+
+-- the answer to a case, by its cause
+abbrev pub AuditsBy : Cause → Case → Answer → Type 0
+AuditsBy cause.Done c a = IsYes c a
+AuditsBy cause.Against c a = IsNo c a
+AuditsBy _ c a = ⊥
+
+abbrev pub IsAudit : Case → Answer → Type 0
+IsAudit c a = AuditsBy a.cause c a
+
 -- what a command that is done has made
 abbrev pub IsDone : Command → List (List ℕ) → Option Shelf → Answer → Type 0
 IsDone command.Fit words shelf a = (i : Inputs) × HasInputs words shelf i × IsFitted i a
 IsDone command.Measure words shelf a = (v : Survey) × HasSurvey command.Measure words shelf v × IsMeasured v a
+IsDone command.Audit words shelf a = (c : Case) × HasCase words shelf c × IsYes c a
 IsDone command.Run words shelf a = (v : Survey) × HasSurvey command.Run words shelf v × IsRun v a
 
 -- the noise of a command that draws stops, with this status
@@ -241,6 +266,7 @@ pub record FailsAt (words : List (List ℕ)) (shelf : Option Shelf) (f : File) (
 -- the answer is the one to what the words ask for and the inbox holds, by its cause
 abbrev pub SuitsBy : Cause → List (List ℕ) → Option Shelf → Answer → Type 0
 SuitsBy cause.Done words shelf a = (c : Command) × IsDone c words shelf a
+SuitsBy cause.Against words shelf a = (c : Case) × HasCase words shelf c × IsNo c a
 SuitsBy cause.Words words shelf a = (command_of words ≡ None) × ReportsAlone words_ending a
 SuitsBy (cause.Refused f) words shelf a = RefusesFile words shelf f a
 SuitsBy (cause.Read f) words shelf a = FailsAt words shelf f a

@@ -6,11 +6,12 @@ use Rattle.tda_command.specs.Words.{command_of}
 use Rattle.tda_command.specs.declared.words.Command.{Command}
 use Rattle.tda_inputs.specs.Ending.{Ending}
 use Rattle.tda_inputs.specs.Survey.{Survey}
-use Rattle.tda_inputs.specs.Accepted.{Given, given_by, inputs_from, survey_from}
+use Rattle.tda_inputs.specs.Accepted.{Given, given_by, Case, inputs_from, survey_from, case_from}
 use Rattle.tda_tool.specs.Ending.{words_ending}
 use Rattle.tda_tool.specs.Measuring.{MeasureEnds, WordsSuffice}
 use Rattle.tda_tool.specs.Fitting.{FitEnds}
 use Rattle.tda_tool.specs.Running.{RunEnds}
+use Rattle.tda_tool.specs.Auditing.{IsCertified, audit_ending}
 use Rattle.tda_command.specs.declared.words.Command.TheVariants as command
 
 -- what is to be done
@@ -18,12 +19,14 @@ pub data Task : Type 0 where
   Fits : Inputs → Task
   Measures : Survey → Task
   Runs : Survey → Task
+  Audits : Case → Task
 
 -- what a command is to do, where its files are accepted, or how the program ends
 abbrev pub task_of : Command → List (List ℕ) → Given → Result Task Ending
 task_of command.Fit words given = inputs_from given >>= (λ i. Ok (Fits i))
 task_of command.Measure words given = survey_from words given >>= (λ v. Ok (Measures v))
 task_of command.Run words given = survey_from words given >>= (λ v. Ok (Runs v))
+task_of command.Audit words given = case_from given >>= (λ c. Ok (Audits c))
 
 -- what the words ask for, by what the reads give
 abbrev pub task_by : List (List ℕ) → Given → Result Task Ending
@@ -34,6 +37,7 @@ abbrev pub TaskEnds : Task → Ending → Type 0
 TaskEnds (Fits i) e = FitEnds i e
 TaskEnds (Measures v) e = MeasureEnds v e
 TaskEnds (Runs v) e = RunEnds v e
+TaskEnds (Audits c) e = e ≡ audit_ending c
 
 abbrev pub EndsBy : Result Task Ending → Ending → Type 0
 EndsBy (Ok task) e = TaskEnds task e
@@ -57,13 +61,14 @@ pub record IsDue (words : List (List ℕ)) (holds : List ℕ → Option (List �
 abbrev pub IsDueStatus : List (List ℕ) → (List ℕ → Option (List ℕ)) → ℕ → Type 0
 IsDueStatus words holds status = (e : Ending) × IsDue words holds e × (e.status ≡ status)
 
--- the words of the noise suffice for a task
+-- nothing hinders a task: the words of the noise suffice, and the prices certify the tables that are audited
 abbrev pub Suffices : Task → Type 0
 Suffices (Fits i) = Unit {0}
 Suffices (Measures v) = WordsSuffice v
 Suffices (Runs v) = WordsSuffice v
+Suffices (Audits c) = IsCertified c
 
--- the words are right, the files are accepted, and the words of the noise suffice
+-- the words are right, the files are accepted, and nothing hinders the task
 pub record IsComplete (words : List (List ℕ)) (holds : List ℕ → Option (List ℕ)) : Type 0 where
   pub task : Task
   pub accepted : due_task words holds ≡ Ok task

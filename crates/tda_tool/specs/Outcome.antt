@@ -5,7 +5,7 @@ use Rattle.tda_schema.specs.Shares.{frac_of, spent_of}
 use Rattle.tda_measure.specs.Noise.{variances_of, NoiseStops}
 use Rattle.tda_measure.specs.declared.stop.MeasureStop.{MeasureStop}
 use Rattle.tda_model.specs.Tables.{Tables}
-use Rattle.tda_model.specs.Release.{Inputs}
+use Rattle.tda_model.specs.Release.{Inputs, IsRelease}
 use Rattle.tda_prices.specs.Items.{Pricing}
 use Rattle.tda_command.specs.Words.{command_of, reads_of, writes_of, dash}
 use Rattle.tda_invar.specs.Totals.{totals_text}
@@ -15,15 +15,19 @@ use Rattle.tda_model.specs.TablesText.{tables_text}
 use Rattle.tda_frac.specs.Fraction.{IsAtMost}
 use Rattle.tda_ledger.specs.LedgerText.{ledger_text}
 use Rattle.tda_command.specs.declared.words.Command.{Command}
+use Rattle.tda_command.specs.declared.words.Command.TheVariants.{Audit}
+use Rattle.tda_model.specs.Deviation.{square}
+use Rattle.tda_audit.specs.declared.verdict.Verdict.TheVariants.{Yes}
 use Rattle.tda_inputs.specs.declared.reading.File.{File}
 use Rattle.tda_inputs.specs.Ending.{Ending, refused_ending, read_ending}
 use Rattle.tda_inputs.specs.Asked.{asks_all}
 use Rattle.tda_inputs.specs.Survey.{Survey}
-use Rattle.tda_inputs.specs.Accepted.{given_by, failing_at, inputs_from, survey_from}
-use Rattle.tda_release.specs.Certified.{IsCertifiedRelease, pricing_text}
+use Rattle.tda_inputs.specs.Accepted.{given_by, failing_at, Case, inputs_from, survey_from, case_from}
+use Rattle.tda_release.specs.Certified.{IsCertifiedRelease, pricing_text, total_deviation}
 use Rattle.tda_tool.specs.Measuring.{Draws, stop_ending, measured_ending, state_counts, MeasuresSurvey}
 use Rattle.tda_tool.specs.Fitting.{fitted_ending}
 use Rattle.tda_tool.specs.Running.{run_inputs, ran_ending}
+use Rattle.tda_tool.specs.Auditing.{tables_in, IsCertified, verdict_on, yes_ending, no_ending}
 use Rattle.tda_tool.specs.Due.{task_by, due_task, IsDue, IsDueStatus}
 use Rattle.tda_inputs.specs.Files.{name_of, place_of_file, IsRead, IsFaultOf}
 
@@ -54,7 +58,7 @@ IsEmpty t = t.files ≡ []
 
 -- the statuses that the program ends with
 abbrev pub is_status : ℕ → Bool
-is_status status = list_any (λ s. status == s) (0 ∷ 2 ∷ 3 ∷ 4 ∷ 5 ∷ 6 ∷ 7 ∷ 8 ∷ [])
+is_status status = list_any (λ s. status == s) (0 ∷ 1 ∷ 2 ∷ 3 ∷ 4 ∷ 5 ∷ 6 ∷ 7 ∷ 8 ∷ [])
 
 -- no object failed, memory sufficed: the status is neither 4, 5 nor 8
 pub record IsSettled (status : ℕ) : Type 0 where
@@ -170,3 +174,31 @@ pub record RunWrote (words : List (List ℕ)) (holds : List ℕ → Option (List
       ∷ whole (slice_index_or (writes_of words) 3 []) (tables_text survey.schema survey.spine tables)
       ∷ whole (slice_index_or (writes_of words) 4 []) (pricing_text (run_inputs survey measurements) price)
       ∷ whole dash (ran_ending survey measurements taken tables).report ∷ []) old new
+
+-- the prices of a case certify its tables, which are therefore a release over its inputs, whoever wrote them
+pub record IsCertifiedCase (c : Case) : Type 0 where
+  pub yes : verdict_on c ≡ Yes
+  pub certified : IsCertified c
+  pub release : IsRelease square c.inputs (tables_in c)
+
+-- the prices of a case don't certify its tables, since a condition fails
+pub record IsUncertifiedCase (c : Case) : Type 0 where
+  pub no : verdict_on c ≢ Yes
+  pub uncertified : IsCertified c → ⊥
+
+-- `audit` answers yes on what the inbox holds, with the deviation, and writes nothing but its report.
+pub record AuditYes (words : List (List ℕ)) (holds : List ℕ → Option (List ℕ)) (old new : Option Tray) : Type 0 where
+  pub case : Case
+  pub accepted : case_from (given_by words holds) ≡ Ok case
+  pub certified : IsCertifiedCase case
+  pub written : LeavesReport (yes_ending case.inputs.spine (total_deviation case.inputs (tables_in case))).report old new
+
+-- A condition of `audit` fails, so that the prices don't certify the tables: all files were asked for and accepted, and nothing but the
+-- report of the first such condition was begun.
+pub record AuditNo (words : List (List ℕ)) (shelf shelf_new : Option Shelf) (old new : Option Tray) : Type 0 where
+  pub is : command_of words ≡ Some Audit
+  pub asked : shelf_new ≡ option_map (asks_all (reads_of words)) shelf
+  pub case : Case
+  pub accepted : IfSome shelf (λ s. case_from (given_by words s.holds) ≡ Ok case)
+  pub uncertified : IsUncertifiedCase case
+  pub written : LeavesReport (no_ending case.inputs.schema case.inputs.spine (verdict_on case)).report old new

@@ -18,6 +18,8 @@ pub(crate) enum Cause {
     OutOfWords,
     /// A magnitude passes its limit in a draw.
     TooLarge,
+    /// A condition of the audit fails.
+    Against,
 }
 
 impl Cause {
@@ -30,6 +32,7 @@ impl Cause {
     {
         match self {
             Cause::Done => 0,
+            Cause::Against => 1,
             Cause::Words => 2,
             Cause::Refused(_) => 3,
             Cause::Read(_) => 4,

@@ -2,6 +2,7 @@
 #![tactic(auto)]
 
 mod answer;
+mod audit;
 mod draw;
 mod fit;
 mod measured;

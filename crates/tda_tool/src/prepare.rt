@@ -4,12 +4,13 @@ ghost use Rattle.tda_command.specs.Words.{command_of};
 ghost use Rattle.tda_tool.specs.Answer.{Suits, AsksPrepared, CountsPrepared, AnswersStop};
 
 use crate::answer::Answer;
+use crate::audit::audited;
 use crate::fit::fitted;
 use crate::measured::measured;
 use crate::run::ran;
 use std::alloc::Global;
 use tda_command::{Command, judge};
-use tda_inputs::{Stop, read_counted, read_inputs};
+use tda_inputs::{Stop, read_counted, read_evidence, read_inputs};
 use tda_io::{Inbox, NoMemory};
 
 // What stops the reading is the answer.
@@ -71,6 +72,20 @@ fn run<I: Inbox>(alloc: Global, words: &[String], inbox: &mut I) -> Result<Answe
     }
 }
 
+// What `audit` answers.
+fn audit<I: Inbox>(alloc: Global, words: &[String], inbox: &mut I) -> Result<Answer, NoMemory>
+    requires command { command_of (map string_bytes words.now) ≡ Some Command.Audit }
+    requires room { I.faults inbox.old < 2 ^ 64 - 1 }
+    ensures suits { IfOk result (Suits (map string_bytes words.now) (I.told inbox.old)) }
+    ensures asked { AsksPrepared (map string_bytes words.now) (I.told inbox.old) (I.told inbox.new) result }
+    ensures cause { CountsPrepared (I.faults inbox.old) (I.faults inbox.new) result }
+{
+    match read_evidence(alloc, words, inbox) {
+        Ok(evidence) => audited(alloc, &evidence),
+        Err(stop) => stopped(alloc, &stop),
+    }
+}
+
 /// Judges the words, reads and judges the files, and makes the outputs and the report.
 pub(crate) fn prepare<I: Inbox>(
     alloc: Global,
@@ -86,6 +101,7 @@ pub(crate) fn prepare<I: Inbox>(
         Some(Command::Measure) => measure(alloc, words, inbox),
         Some(Command::Fit) => fit(alloc, words, inbox),
         Some(Command::Run) => run(alloc, words, inbox),
+        Some(Command::Audit) => audit(alloc, words, inbox),
         None => Answer::words(alloc),
     }
 }

@@ -4,7 +4,7 @@ ghost use Rattle.tda_io.specs.Outside.{CountsOut};
 ghost use Rattle.tda_command.specs.Words.{command_of, reads_of, writes_of};
 ghost use Rattle.tda_tool.specs.Ending.{words_ending};
 ghost use Rattle.tda_tool.specs.Due.{IsDueStatus, IsComplete};
-ghost use Rattle.tda_tool.specs.Outcome.{is_status, IsSettled, IsEmpty, Leaves, LeavesReport, LeavesAll, ReportsDue, FitWrote, MeasureWrote, RunWrote, NoiseStopped, FileRefused, ReadFailed, BeginsPrefix, BeginsWhenDue};
+ghost use Rattle.tda_tool.specs.Outcome.{is_status, IsSettled, IsEmpty, Leaves, LeavesReport, LeavesAll, ReportsDue, FitWrote, MeasureWrote, RunWrote, AuditYes, AuditNo, NoiseStopped, FileRefused, ReadFailed, BeginsPrefix, BeginsWhenDue};
 ghost use Rattle.tda_inputs.specs.Asked.{AsksPrefix, asks_all};
 ghost use Rattle.tda_tool.specs.Answer.{Suits, Asks, files_of, CountsRun, status_of};
 
@@ -56,10 +56,10 @@ fn status(run: &Result<Answer, OutFault>) -> u8
     }
 }
 
-/// Does all that the program does, and answers its status: 0 where all outputs and the report are written, 2 where the
-/// words are no command, 3 where a file isn't accepted, 4 where a read failed, 5 where a write failed, 6 where the words
-/// of the noise end before the last draw, 7 where a magnitude passes 2^30 in a draw, 8 for want of memory. No name is begun
-/// in the outbox. Both counts of faults are below 2^64 - 1.
+/// Does all that the program does, and answers its status: 0 where all outputs and the report are written, 1 where a
+/// condition of an audit fails, 2 where the words are no command, 3 where a file isn't accepted, 4 where a read failed, 5
+/// where a write failed, 6 where the words of the noise end before the last draw, 7 where a magnitude passes 2^30 in a draw,
+/// 8 for want of memory. No name is begun in the outbox. Both counts of faults are below 2^64 - 1.
 pub fn tool<I: Inbox, O: Outbox>(
     alloc: Global,
     words: &[String],
@@ -72,8 +72,8 @@ pub fn tool<I: Inbox, O: Outbox>(
 
     ensures statuses { IsTrue (is_status result) }
 
-    // Right words, accepted files and words of noise that suffice give 0 where no object fails, or 8 for want of memory: no
-    // fit is infeasible.
+    // Right words, accepted files, and words of noise that suffice or tables that are certified give 0 where no object
+    // fails, or 8 for want of memory: no fit is infeasible.
     ensures complete { I.faults inbox.new ≡ I.faults inbox.old → O.faults outbox.new ≡ O.faults outbox.old →
         IfSome (I.told inbox.old) (λ s. IsComplete (map string_bytes words.now) s.holds → (result ≡ 0) ⊎ (result ≡ 8)) }
 
@@ -97,6 +97,13 @@ pub fn tool<I: Inbox, O: Outbox>(
     // measurements and totals, as the prices show that it writes, and nothing else but the report.
     ensures run_wrote { result ≡ 0 → command_of (map string_bytes words.now) ≡ Some Command.Run → IfSome (I.told inbox.old) (λ s.
         RunWrote (map string_bytes words.now) s.holds (O.told outbox.old) (O.told outbox.new)) }
+
+    // A yes of `audit` says that the prices certify the tables, so that they are a release, whoever wrote the files. A no says
+    // that they don't, with the first condition that fails.
+    ensures yes { result ≡ 0 → command_of (map string_bytes words.now) ≡ Some Command.Audit → IfSome (I.told inbox.old) (λ s.
+        AuditYes (map string_bytes words.now) s.holds (O.told outbox.old) (O.told outbox.new)) }
+    ensures no { result ≡ 1 → AuditNo (map string_bytes words.now)
+        (I.told inbox.old) (I.told inbox.new) (O.told outbox.old) (O.told outbox.new) }
     ensures all_written { result ≡ 0 →
         LeavesAll (writes_of (map string_bytes words.now)) (O.told outbox.old) (O.told outbox.new) }
 

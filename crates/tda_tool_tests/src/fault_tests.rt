@@ -2,12 +2,13 @@
 use std::test::Fail;
 use tda_invar::FacFault;
 use tda_places::MeaFault;
+use tda_prices::{PriFault, TabFault};
 use tda_records::RecFault;
 use tda_refusal::{Plain, push_plain};
 use tda_schema::SchemaFault;
 use tda_spine::SpineFault;
 
-const FAULTS: [(Plain, &str); 46] = [
+const FAULTS: [(Plain, &str); 50] = [
     (Plain::TooLong, "TooLong"),
     (Plain::BadLength, "BadLength"),
     (Plain::Records(RecFault::BadRow(2)), "BadRow 2"),
@@ -22,6 +23,10 @@ const FAULTS: [(Plain, &str); 46] = [
     (Plain::Measurements(MeaFault::TooMany(4)), "TooMany 4"),
     (Plain::Measurements(MeaFault::Missing), "Missing"),
     (Plain::Measurements(MeaFault::NoMemory), ""),
+    (Plain::Tables(TabFault::WrongPlace(3)), "WrongPlace 3"),
+    (Plain::Tables(TabFault::NoMemory), ""),
+    (Plain::Prices(PriFault::TooMany(4)), "TooMany 4"),
+    (Plain::Prices(PriFault::Missing), "Missing"),
     (Plain::Schema(SchemaFault::BadToml), "BadToml"),
     (Plain::Schema(SchemaFault::UnknownKey), "UnknownKey"),
     (Plain::Schema(SchemaFault::MissingKey), "MissingKey"),

@@ -67,7 +67,7 @@ pub(crate) fn inbox_of(alloc: Global, files: &[&[u8]], fail: u64) -> Result<MemI
     ensures { IfOk result (λ inbox. inbox.faults ≡ 0) }
 {
     let mut held = Vec::new(alloc);
-    for (name, bytes) in ["a", "b", "c", "d", "e"].into_iter().zip(files) {
+    for (name, bytes) in ["a", "b", "c", "d", "e", "f", "g"].into_iter().zip(files) {
         held.push(MemFile {
             name: String::from_str(alloc, name)?,
             bytes: bytes.to_vec(alloc)?,

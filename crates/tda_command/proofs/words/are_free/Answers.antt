@@ -9,4 +9,4 @@ pub returns : goal.returns
 returns c =
     let ps = pairs_of (map string_bytes c.args.pairs.now) in
     let f = form_of c.args.source c.args.command in
-    simp list_all-map (all_from_yields_List (λ name. is_free (values_in ps f.reads) (values_in ps f.writes) (value_or_empty ps name.now)) _ _ _ c.all.ensures.ran (YieldsList-from_slice c.args.names.now cc) (λ x b q k. search (rules, tests)))
+    simp list_all-map (all_from_yields_List (λ name. is_free (values_in ps f.reads) (values_in ps f.writes) (value_or_empty ps name.now)) _ _ _ c.all.ensures.ran (YieldsList-from_slice c.args.names.now cc) (λ x b q k. search (rules, tests) fits 8000))

@@ -1,5 +1,6 @@
 use Rattle.std.proofs.Common.{rules, of_calls, subst, ℕ, ◌<◌, ◌≤◌, length, arith}
 use Rattle.tda_model.specs.Commons.{common_of}
+use Rattle.tda_model.specs.Groups.{kind_count}
 use Rattle.tda_schema.specs.Shares.{denominator_limit}
 use Rattle.tda_invar.proofs.Existence.{always}
 use Rattle.tda_loss.specs.declared.Curve.TheVariants.{Square}
@@ -10,7 +11,7 @@ use Rattle.tda_audit.proofs.Limits.{inputs_limited}
 use Rattle.tda_fitnet.specs.Inputs.{inputs_of}
 use Rattle.tda_descent.specs.Fits.{AreFirstFits}
 use Rattle.tda_release.proofs.Kept.{all_taken, next_takes}
-use Rattle.tda_release.proofs.Releasing.{texts_released}
+use Rattle.tda_release.proofs.Releasing.{texts_back, texts_released}
 use Rattle.tda_release.proofs.release.release_texts.Goals as goal
 
 pub descend-fitted-requires-clause-keep : goal.descend-fitted-requires-clause-keep
@@ -35,12 +36,25 @@ returns-in-Ok c =
     let tells : YesTells Square i = yes_tells Square i joined.tree joined.kinds joined.most (always s sp inv joined).few c.requires.limits.depth
     (inputs_limited s sp inv m c.levels.ensures.queries common few c.requires.measured c.requires.limits)
     (λ level low. ((grouped level low).tree, (grouped level low).is_tree, (grouped level low).is_tree.listed)) in
-    let all = texts_released i c.units.ensures.sound e.0 (subst (λ curve. AreFirstFits curve i e.0) c.new-loss.ensures.curve e.2) e.3 tells c.in_ok-texts.texts c.descend-fitted.new.keep.0.now c.in_ok-texts.ensures t.has in
+    let first : AreFirstFits Square i e.0 = subst (λ curve. AreFirstFits curve i e.0) c.new-loss.ensures.curve e.2 in
+    let all = texts_released i c.units.ensures.sound e.0 first e.3 tells c.in_ok-texts.texts c.descend-fitted.new.keep.0.now c.in_ok-texts.ensures t.has in
+    let kinds : kind_count s ≤ 128 = omega (arith, c.kinds.ensures.count, c.kinds.ensures.limit) in
+    let back = texts_back i c.units.ensures.sound e.0 first e.3 tells c.requires.limits c.cells.ensures.limits.cells kinds (λ level low. ((grouped level low).tree, (grouped level low).is_tree))
+    c.in_ok-texts.texts c.descend-fitted.new.keep.0.now c.in_ok-texts.ensures t.has in
     record {
-      tables = all.tables;
-      price = all.price;
-      certified = all.certified;
-      tables_are = let is = all.tables_are in search rules;
-      prices_are = let is = all.prices_are in search rules;
-      deviation = let is = all.deviation in search rules;
+      texts = record {
+        tables = all.tables;
+        price = all.price;
+        certified = all.certified;
+        tables_are = let is = all.tables_are in search rules;
+        prices_are = let is = all.prices_are in search rules;
+        deviation = let is = all.deviation in search rules;
+      };
+      read_back = record {
+        counts = back.counts;
+        numbers = back.numbers;
+        tables_back = let is = back.tables_back in search rules;
+        prices_back = let is = back.prices_back in search rules;
+        yes = back.yes;
+      };
     }

@@ -4,7 +4,7 @@ use Rattle.tda_tool.proofs.fit.fitted.Goals as goal
 
 pub returns-clause-made : goal.returns-clause-made
 returns-clause-made c =
-    let t = c.in_ok-texts.ensures in
+    let t = c.in_ok-texts.ensures.texts in
     let tables_are = t.tables_are in
     let prices_are = t.prices_are in
     record {

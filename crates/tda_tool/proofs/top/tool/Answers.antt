@@ -26,6 +26,14 @@ pub returns-clause-complete : goal.returns-clause-complete
 returns-clause-complete g c =
     rw c.status.ensures (ran.complete (map string_bytes c.args.words.now) _ c.run.result _ _ _ _ c.run.ensures.suits c.run.ensures.cause_in c.run.ensures.cause_out)
 
+pub returns-clause-yes : goal.returns-clause-yes
+returns-clause-yes g c =
+    rw c.status.ensures (ran.audit_yes (map string_bytes c.args.words.now) _ c.run.result _ _ c.run.ensures.suits c.run.ensures.written)
+
+pub returns-clause-no : goal.returns-clause-no
+returns-clause-no g c =
+    rw c.status.ensures (ran.audit_no (map string_bytes c.args.words.now) c.run.result _ _ _ _ c.run.ensures.suits c.run.ensures.told c.run.ensures.written)
+
 pub returns-clause-all_written : goal.returns-clause-all_written
 returns-clause-all_written g c =
     rw c.status.ensures (ran.all_written (map string_bytes c.args.words.now) _ c.run.result _ _ c.run.ensures.suits c.run.ensures.written)
