@@ -8,4 +8,5 @@ pub mod Written
 pub mod Certifying
 pub mod Releasing
 pub mod SameTables
+pub mod SameDeviation
 pub mod ReadBack

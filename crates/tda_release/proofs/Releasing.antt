@@ -33,7 +33,8 @@ use Rattle.tda_release.proofs.Squares.{curve_is_square}
 use Rattle.tda_release.proofs.Kept.{HasFits, fit_price_rows, fit_rows}
 use Rattle.tda_release.proofs.ReadBack.{HaveTrees, group_cells, levels_nested, prices_back, read_counts, read_prices, read_same, tables_back}
 use Rattle.tda_release.proofs.SameTables.{same_certified}
-use Rattle.tda_release.proofs.Written.{pricing, all_certified, prices_written, read_pricing, tables_written, texts_written}
+use Rattle.tda_release.proofs.SameDeviation.{same_deviation}
+use Rattle.tda_release.proofs.Written.{pricing, all_certified, deviation_written, prices_written, read_pricing, tables_written, texts_written}
 use Rattle.tda_release.proofs.Certifying.{certifies}
 
 -- ---- there are no more fits than units
@@ -145,10 +146,11 @@ module _ (i : Inputs) (sound : IsSound i.spine) (fits : List Fit) (first : AreFi
       let long = length-map (parents_of i.spine) Some in
       within (length fits) _ (omega (arith, all, long, few, sound.few)) le
 
+  total : sum_by (λ fit. fit.deviation) fits ≡ total_deviation i x
+  total = total_own ∙ ap (λ curve. sum_by (λ u. deviation_at curve i u (x u)) (unit_numbers i.spine)) curve_is_square
+
   pub texts_released : YesTells Square i → (old new : Texts) → AreHeaders old → HasFits i.schema i.spine old fits new → AreTextsOf i new
   texts_released tells old new headers has =
-      let total : sum_by (λ fit. fit.deviation) fits ≡ total_deviation i x =
-      total_own ∙ ap (λ curve. sum_by (λ u. deviation_at curve i u (x u)) (unit_numbers i.spine)) curve_is_square in
       let prices = pricing i sound.tree x fits order first.tables.1 in
       let certified : IsCertifiedRelease i x prices = record {
         release = subst (λ curve. IsRelease curve i x) curve_is_square released;
@@ -176,5 +178,7 @@ module _ (i : Inputs) (sound : IsSound i.spine) (fits : List Fit) (first : AreFi
         prices_back = subst (λ t. IsReadBack (prices.read i.schema i.spine) t numbers)
             (sym (has.prices ∙ ap (λ t. t ++ flat_map (fit_price_rows i.schema i.spine) fits) headers.prices ∙ prices_written i sound.tree x fits order first.tables.1))
             (prices_back i sound.tree x fits order first.tables.1 sound cells kinds (levels_nested i.schema trees) within);
+        certified = subst (Certifies Square i (level_groups i.schema) (count_at counts)) (sym (read_pricing i sound.tree x fits order first.tables.1)) again;
+        deviation = sym (same_deviation i x (count_at counts) (read_same i sound cells x few)) ∙ sym (deviation_written i sound.tree x fits order first.tables.1 total (subst (λ n. n < 2 ^ 128) total small) old new headers has);
         yes = subst (λ p. IsVerdict Square i (count_at counts) p Yes) (sym (read_pricing i sound.tree x fits order first.tables.1)) ((tells.certified (count_at counts) price).1 again);
       }

@@ -159,6 +159,9 @@ module _ (i : Inputs) (tree : IsTree i.spine (nation_of i.spine)) (x : Tables) (
   most_alone : (n : ℕ) → n < 2 ^ 128 → most_sum 0 n ≡ n
   most_alone n l = omega arith
 
+  pub deviation_written : sum_by (λ fit. fit.deviation) fits ≡ total_deviation i x → total_deviation i x < 2 ^ 128 → (old new : Texts) → AreHeaders old → HasFits i.schema i.spine old fits new → new.deviation ≡ total_deviation i x
+  deviation_written total small old new headers has = has.deviation headers.deviation ∙ ap (most_sum 0) total ∙ most_alone (total_deviation i x) small
+
   pub texts_written : IsCertifiedRelease i x pricing → sum_by (λ fit. fit.deviation) fits ≡ total_deviation i x → total_deviation i x < 2 ^ 128 → (old new : Texts) → AreHeaders old → HasFits i.schema i.spine old fits new → AreTextsOf i new
   texts_written certified total small old new headers has = record {
     tables = x;
@@ -166,5 +169,5 @@ module _ (i : Inputs) (tree : IsTree i.spine (nation_of i.spine)) (x : Tables) (
     certified = certified;
     tables_are = has.tables ∙ ap (λ t. t ++ flat_map (fit_rows i.schema i.spine) fits) headers.tables ∙ tables_written;
     prices_are = has.prices ∙ ap (λ t. t ++ flat_map (fit_price_rows i.schema i.spine) fits) headers.prices ∙ prices_written;
-    deviation = has.deviation headers.deviation ∙ ap (most_sum 0) total ∙ most_alone (total_deviation i x) small;
+    deviation = deviation_written total small old new headers has;
   }

@@ -15,6 +15,7 @@ use Rattle.tda_prices.specs.PricesText as prices
 use Rattle.tda_prices.specs.PricesText.{header, fit_text}
 use Rattle.tda_prices.specs.TablesRead as tables
 use Rattle.tda_audit.specs.Answers.{IsVerdict}
+use Rattle.tda_audit.specs.Certified.{level_groups, Certifies}
 use Rattle.tda_audit.specs.declared.verdict.Verdict.TheVariants.{Yes}
 use Rattle.tda_descent.specs.declared.fit.Fit.{Fit}
 use Rattle.tda_release.specs.Certified.{IsCertifiedRelease, pricing_text, total_deviation}
@@ -50,10 +51,12 @@ pub record IsReadBack {V F : Type 0} (read : List ℕ → Result V F) (text : Li
   pub short : length text ≤ 2 ^ 30
   pub value_is : read text ≡ Ok value
 
--- both texts are read back, and an audit of what is read answers Yes
+-- both texts are read back: the prices that are read certify the tables that are read, of the same deviation, and an audit answers Yes
 pub record AreReadBack (i : Inputs) (t : Texts) : Type 0 where
   pub counts : Counts
   pub numbers : List ℤ
   pub tables_back : IsReadBack (tables.read i.schema i.spine) t.tables.items counts
   pub prices_back : IsReadBack (prices.read i.schema i.spine) t.prices.items numbers
+  pub certified : Certifies Square i (level_groups i.schema) (count_at counts) (price_in i.schema i.spine numbers)
+  pub deviation : total_deviation i (count_at counts) ≡ t.deviation
   pub yes : IsVerdict Square i (count_at counts) (price_in i.schema i.spine numbers) Yes

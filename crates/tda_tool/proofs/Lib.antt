@@ -2,6 +2,7 @@ pub mod CommandFiles
 pub mod Files
 pub mod Begun
 pub mod Outputs
+pub mod Answered
 pub mod Released
 pub mod Verdicts
 pub mod Ran

@@ -20,7 +20,7 @@ use Rattle.tda_release.specs.Certified.{pricing_text}
 use Rattle.tda_inputs.specs.Survey.{Survey}
 use Rattle.tda_tool.specs.Measuring.{Draws, WordsSuffice, state_counts, noise_ending, stop_ending, measured_ending, MeasureEnds}
 use Rattle.tda_command.specs.Words.{command_of, form_in, reads_of, writes_of, read_names, write_names, pairs_after, values_in, dash}
-use Rattle.tda_tool.specs.Auditing.{verdict_on, audit_ending, ending_by, no_ending}
+use Rattle.tda_tool.specs.Auditing.{verdict_on, case_over, audit_ending, ending_by, yes_ending, no_ending, AreAnsweredYes}
 use Rattle.tda_audit.specs.declared.verdict.Verdict.{Verdict}
 use Rattle.tda_audit.specs.declared.verdict.Verdict.TheVariants.{Yes, Sum, Impossible, Total, Kind, Arc}
 use Rattle.tda_tool.specs.Running.{run_inputs, measured_by, ran_ending, EndsRun, RunEnds}
@@ -28,7 +28,7 @@ use Rattle.tda_inputs.specs.Ending.{Ending, refused_ending}
 use Rattle.tda_tool.specs.Ending.{words_ending}
 use Rattle.tda_inputs.specs.Accepted.{Given, Case, inputs_from, survey_from, case_from, given_by}
 use Rattle.tda_tool.specs.Due.{Task, Fits, Measures, Runs, Audits, EndsBy, Due, IsDue, IsDueStatus, task_of, task_by, due_task, Suffices, IsComplete}
-use Rattle.tda_tool.specs.Outcome.{IsSettled, whole, Leaves, LeavesAll, ReportsDue, FitWrote, MeasureWrote, RunWrote, AuditYes, AuditNo, NoiseStopped, FileRefused, ReadFailed, BeginsPrefix, BeginsWhenDue}
+use Rattle.tda_tool.specs.Outcome.{IsSettled, IsAnsweredYes, whole, Leaves, LeavesAll, ReportsDue, FitWrote, MeasureWrote, RunWrote, AuditYes, AuditNo, NoiseStopped, FileRefused, ReadFailed, BeginsPrefix, BeginsWhenDue}
 use Rattle.tda_inputs.specs.Asked.{asks_all, AsksPrefix}
 use Rattle.tda_inputs.specs.Files.{name_of, place_of_file, IsRead}
 use Rattle.tda_tool.specs.Answer.{status_by, Suits, SuitsBy, IsDone, HasInputs, HasSurvey, HasCase, IsFitted, IsMeasured, IsRun, StopsAs, RefusesFile, FailsAt, ReportsAlone, WritesNames, Asks, AsksBy, CountsBy, CountsRun, files_of, target_of, targets_of, status_of}
@@ -38,6 +38,7 @@ use Rattle.tda_inputs.specs.declared.reading.File.{File}
 use Rattle.tda_tool.specs.declared.answer.Answer.{Answer}
 use Rattle.tda_tool.specs.declared.answer.Cause.{Cause}
 use Rattle.tda_tool.specs.declared.answer.Cause.TheVariants as cause
+use Rattle.tda_tool.proofs.Answered.{case_read, inputs_read}
 use Rattle.tda_tool.proofs.Begun.{begun_alone}
 use Rattle.tda_inputs.proofs.Asked.{file_within, asks_whole, asks_first, asks_no_name}
 use Rattle.tda_tool.proofs.Outputs.{names_in, texts_in, files_are, written_outputs, targets_written, no_targets, report_alone}
@@ -163,6 +164,15 @@ stops_due command.Audit draws words s v has why rest is = absurd draws
 
 case_due : (words : List (List ℕ)) (s : Shelf) (c : Case) → HasCase words (Some s) c → IsDue words s.holds (audit_ending c)
 case_due words s c has = due_from words s.holds (Ok (Audits c)) _ (audit_task words (given_by words s.holds) (Ok c) has.0 has.1) refl (λ d h. h)
+
+-- an audit of what these reads give answers yes, where they give inputs, and texts that are answered yes
+answers_yes : (g : Given) (i : Inputs) (tables prices : List ℕ) (deviation : ℕ) → AreAnsweredYes i tables prices deviation → inputs_from g ≡ Ok i → g 5 ≡ Some tables → g 6 ≡ Some prices
+    → IsAnsweredYes g i.spine deviation
+answers_yes g i tables prices deviation yes accepted five six = λ words holds is same.
+    let c = case_over i yes.counts yes.numbers in
+    let task : due_task words holds ≡ Ok (Audits c) = audit_task words (given_by words holds) (Ok c) is (case_read g (given_by words holds) i tables prices deviation yes accepted five six same) in
+    let ends : yes_ending i.spine deviation ≡ audit_ending c = ap (yes_ending i.spine) (sym yes.deviation_is) ∙ ap (λ v. ending_by v c) (sym yes.yes) in
+    (record { task = Audits c; accepted = task; enough = yes.certified }, due_from words holds (Ok (Audits c)) (yes_ending i.spine deviation) task ends (λ d h. h ∙ sym ends))
 
 -- the report of a condition that fails is due
 no_due : (c : Case) (v : Verdict) → v ≢ Yes → ending_by v c ≡ no_ending c.inputs.schema c.inputs.spine v
@@ -328,6 +338,7 @@ wrote_tables words s a old new i has fitted left = record {
       ∷ whole dash (fitted_ending i fitted.tables).report ∷ []) old new)
       (paths_for words command.Fit has.0)
       (subst (λ files. Leaves files old new) (files_are words _ _ _ a fitted.outputs fitted.report) left);
+  answered = answers_yes _ i (tables_text i.schema i.spine fitted.tables) (pricing_text i fitted.price) _ fitted.answered has.1 refl refl;
 }
 
 wrote_measured : (words : List (List ℕ)) (s : Shelf) (a : Answer) (old new : Option Tray) (v : Survey) → HasSurvey command.Measure words (Some s) v → IsMeasured v a → Leaves (files_of words a) old new
@@ -369,6 +380,8 @@ wrote_run words s a old new v has made left = record {
       ∷ whole dash (ran_ending v made.measurements made.taken made.tells.tables).report ∷ []) old new)
       (paths_for words command.Run has.is)
       (subst (λ files. Leaves files old new) (files_are words _ _ _ a made.tells.outputs made.tells.report) left);
+  answered = answers_yes _ (run_inputs v made.measurements) (tables_text v.schema v.spine made.tells.tables) (pricing_text (run_inputs v made.measurements) made.tells.price) _ made.tells.answered
+      (inputs_read words (given_by words s.holds) v made.measurements (state_counts v.spine v.records) _ _ _ has.held made.tells.totals_back made.tells.measured_back) refl refl;
 }
 
 -- the words are one command at most

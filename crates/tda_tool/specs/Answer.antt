@@ -1,5 +1,5 @@
 -- What an answer says, which files it leaves, and when it is due.
-use Rattle.std.specs.Prelude.{◌≡◌, ◌≢◌, ◌⊎◌, ◌<◌, ◌≤◌, ℕ, ℤ, ◌+◌, codes, List, [], ◌∷◌, ◌++◌, length, map, sum, take, Option, Some, None, IfSome, option_map, Result, Ok, Err}
+use Rattle.std.specs.Prelude.{◌≡◌, ◌≢◌, ◌⊎◌, ◌<◌, ◌≤◌, ℕ, ℤ, ◌+◌, ◌^◌, codes, List, [], ◌∷◌, ◌++◌, length, map, sum, take, Option, Some, None, IfSome, option_map, Result, Ok, Err}
 use Rattle.tda_io.specs.Outside.{Shelf, Written}
 use Rattle.tda_io.specs.declared.outside.NoMemory.{NoMemory}
 use Rattle.tda_io.specs.declared.outside.OutFault.{OutFault}
@@ -14,7 +14,10 @@ use Rattle.tda_schema.specs.Shares.{frac_of, spent_of}
 use Rattle.tda_invar.specs.Totals.{totals_text}
 use Rattle.tda_ledger.specs.LedgerText.{ledger_text}
 use Rattle.tda_places.specs.Measurements.{measurements_text, AreMeasurementsOf}
+use Rattle.tda_places.specs.Measurements as measurements_file
 use Rattle.tda_places.specs.Places.{places_of}
+use Rattle.tda_model.specs.Sizes.{place_count, places_limit}
+use Rattle.tda_invar.specs.Totals as totals_file
 use Rattle.tda_spine.specs.Judged.{IsWithinLimits}
 use Rattle.tda_invar.specs.KindTable.{NumberTable}
 use Rattle.tda_invar.specs.Known.{known}
@@ -34,10 +37,10 @@ use Rattle.tda_tool.specs.Measuring.{Draws, state_counts, stop_ending, measured_
 use Rattle.tda_command.specs.Words.{command_of, pairs_after, value_or_empty, reads_of, write_names, dash}
 use Rattle.tda_inputs.specs.Ending.{Ending, refused_ending, read_ending}
 use Rattle.tda_tool.specs.Ending.{words_ending, run_ending}
-use Rattle.tda_inputs.specs.Accepted.{Case, inputs_by, inputs_from, survey_from, case_from, given_by, failing_at}
+use Rattle.tda_inputs.specs.Accepted.{Case, totals_from, measurements_from, inputs_by, inputs_from, survey_from, case_from, given_by, failing_at}
 use Rattle.tda_tool.specs.Due.{task_by, due_task}
 use Rattle.tda_tool.specs.Outcome.{whole, IsCertifiedCase, IsUncertifiedCase}
-use Rattle.tda_tool.specs.Auditing.{tables_in, verdict_on, yes_ending, no_ending}
+use Rattle.tda_tool.specs.Auditing.{tables_in, verdict_on, yes_ending, no_ending, AreAnsweredYes}
 use Rattle.tda_inputs.specs.Asked.{asks_all, AsksPrefix}
 use Rattle.tda_inputs.specs.Files.{name_of, place_of_file, IsRead, IsFaultOf}
 use Rattle.tda_inputs.specs.Reading.{IsSource, AreEnough}
@@ -103,6 +106,14 @@ pub record IsFitted (i : Inputs) (a : Answer) : Type 0 where
   pub certified : IsCertifiedRelease i tables price
   pub outputs : AreOutputs (codes "tables" ∷ codes "prices" ∷ []) (tables_text i.schema i.spine tables ∷ pricing_text i price ∷ []) a.outputs.items
   pub report : a.report.items ≡ (fitted_ending i tables).report
+  pub answered : AreAnsweredYes i (tables_text i.schema i.spine tables) (pricing_text i price) (total_deviation i tables)
+
+-- the files of measurements and of totals are read back, the first where there aren't too many places
+pub record AreMeasuredBack (s : Schema) (sp : Spine) (m : List ℤ) (totals : List ℕ) : Type 0 where
+  pub measured : measurements_file.read s sp (measurements_text s sp m) ≡ Ok m
+  pub measured_short : place_count s sp ≤ places_limit → length (measurements_text s sp m) ≤ 2 ^ 30
+  pub totals_are : totals_file.read sp (totals_text sp totals) ≡ Ok totals
+  pub totals_short : length (totals_text sp totals) ≤ 2 ^ 28
 
 -- the files of measurements, totals and ledger
 abbrev pub AreMeasuredFiles : Schema → Spine → List ℤ → List ℕ → List Output → Type 0
@@ -124,6 +135,9 @@ pub record TellsRun (s : Schema) (sp : Spine) (f : NumberTable) (totals : List �
       (measurements_text s sp m ∷ totals_text sp totals ∷ ledger_text s ∷ tables_text s sp tables ∷ pricing_text (inputs_by s sp (known sp f totals) m) price ∷ []) a.outputs.items
   pub report : a.report.items ≡ (run_ending (length (places_of s sp)) (frac_of (spent_of s)) taken sp (total_deviation (inputs_by s sp (known sp f totals) m) tables)).report
   pub within : IsAtMost (frac_of (spent_of s)) (frac_of s.total)
+  pub measured_back : measurements_from s sp (Some (measurements_text s sp m)) ≡ Ok m
+  pub totals_back : totals_from (record { schema = s; spine = sp; facilities = f }) (Some (totals_text sp totals)) ≡ Ok totals
+  pub answered : AreAnsweredYes (inputs_by s sp (known sp f totals) m) (tables_text s sp tables) (pricing_text (inputs_by s sp (known sp f totals) m) price) (total_deviation (inputs_by s sp (known sp f totals) m) tables)
 
 -- measurements of these tables, with so many of these words taken
 pub record AreDrawnFrom (c : Counted) (words : List ℕ) (d : Drawn) : Type 0 where

@@ -1,5 +1,5 @@
 -- What a run of the program asked for, and what it leaves in the outbox.
-use Rattle.std.specs.Prelude.{ℕ, ℤ, List, [], ◌∷◌, ◌++◌, length, Option, Some, Ok, Err, ◌≡◌, ◌+◌, ◌==◌, map, ◌≢◌, slice_index_or, ◌≤◌, ◌⊎◌, Bool, true, if◌then◌else◌, take, IfSome, option_map}
+use Rattle.std.specs.Prelude.{ℕ, ℤ, List, [], ◌∷◌, ◌++◌, length, Option, Some, Ok, Err, ◌≡◌, ◌+◌, ◌==◌, map, ◌≢◌, slice_index_or, ◌<◌, ◌≤◌, ◌⊎◌, Bool, true, if◌then◌else◌, take, IfSome, option_map}
 use Rattle.std.specs.List.{list_any, zip}
 use Rattle.tda_schema.specs.Shares.{frac_of, spent_of}
 use Rattle.tda_measure.specs.Noise.{variances_of, NoiseStops}
@@ -22,13 +22,13 @@ use Rattle.tda_inputs.specs.declared.reading.File.{File}
 use Rattle.tda_inputs.specs.Ending.{Ending, refused_ending, read_ending}
 use Rattle.tda_inputs.specs.Asked.{asks_all}
 use Rattle.tda_inputs.specs.Survey.{Survey}
-use Rattle.tda_inputs.specs.Accepted.{given_by, failing_at, Case, inputs_from, survey_from, case_from}
+use Rattle.tda_inputs.specs.Accepted.{Given, given_by, failing_at, Case, inputs_from, survey_from, case_from}
 use Rattle.tda_release.specs.Certified.{IsCertifiedRelease, pricing_text, total_deviation}
 use Rattle.tda_tool.specs.Measuring.{Draws, stop_ending, measured_ending, state_counts, MeasuresSurvey}
 use Rattle.tda_tool.specs.Fitting.{fitted_ending}
 use Rattle.tda_tool.specs.Running.{run_inputs, ran_ending}
-use Rattle.tda_tool.specs.Auditing.{tables_in, IsCertified, verdict_on, yes_ending, no_ending}
-use Rattle.tda_tool.specs.Due.{task_by, due_task, IsDue, IsDueStatus}
+use Rattle.tda_tool.specs.Auditing.{tables_in, IsCertified, verdict_on, yes_ending, no_ending, followed}
+use Rattle.tda_tool.specs.Due.{task_by, due_task, IsDue, IsDueStatus, IsComplete}
 use Rattle.tda_inputs.specs.Files.{name_of, place_of_file, IsRead, IsFaultOf}
 
 -- a file with all its bytes, ended
@@ -113,8 +113,14 @@ pub record ReadFailed (words : List (List ℕ)) (shelf shelf_new : Option Shelf)
   pub accepted : IfSome shelf (λ s. task_by words (failing_at (place_of_file file) (given_by words s.holds)) ≡ Err (read_ending (name_of file)))
   pub written : LeavesReport (read_ending (name_of file)).report old new
 
+-- Whatever words ask for an audit of what these reads give, and whatever inbox holds it: the files are accepted, the prices certify the
+-- tables, and a yes with this deviation is due.
+abbrev pub IsAnsweredYes : Given → Spine → ℕ → Type 0
+IsAnsweredYes given sp deviation = (words : List (List ℕ)) (holds : List ℕ → Option (List ℕ)) → command_of words ≡ Some Audit → ((n : ℕ) → n < 7 → given_by words holds n ≡ given n)
+    → IsComplete words holds × IsDue words holds (yes_ending sp deviation)
+
 -- `fit` wrote tables that are a release over the files that the inbox holds, prices that certify them, and its report with their
--- deviation, and nothing else.
+-- deviation, and nothing else. An audit of the files that it read and wrote is answered yes.
 pub record FitWrote (words : List (List ℕ)) (holds : List ℕ → Option (List ℕ)) (old new : Option Tray) : Type 0 where
   pub inputs : Inputs
   pub accepted : inputs_from (given_by words holds) ≡ Ok inputs
@@ -125,6 +131,7 @@ pub record FitWrote (words : List (List ℕ)) (holds : List ℕ → Option (List
       (whole (slice_index_or (writes_of words) 0 []) (tables_text inputs.schema inputs.spine tables)
       ∷ whole (slice_index_or (writes_of words) 1 []) (pricing_text inputs price)
       ∷ whole dash (fitted_ending inputs tables).report ∷ []) old new
+  pub answered : IsAnsweredYes (followed 5 (tables_text inputs.schema inputs.spine tables ∷ pricing_text inputs price ∷ []) (given_by words holds)) inputs.spine (total_deviation inputs tables)
 
 -- The noise of `measure` or `run` stops, so that this is the status: all files were asked for and accepted, and nothing but the report of the place was begun.
 pub record NoiseStopped (words : List (List ℕ)) (status : ℕ) (shelf shelf_new : Option Shelf) (old new : Option Tray) : Type 0 where
@@ -156,7 +163,8 @@ pub record MeasureWrote (words : List (List ℕ)) (holds : List ℕ → Option (
       ∷ whole dash (measured_ending survey.schema survey.spine taken).report ∷ []) old new
 
 -- `run` wrote what `measure` writes of what the inbox holds, tables that are a release over the facilities, the written totals and the
--- written measurements, prices that certify them, and its report with their deviation, and nothing else.
+-- written measurements, prices that certify them, and its report with their deviation, and nothing else. An audit of these files, and of
+-- the schema, spine and facilities that it read, is answered yes.
 pub record RunWrote (words : List (List ℕ)) (holds : List ℕ → Option (List ℕ)) (old new : Option Tray) : Type 0 where
   pub survey : Survey
   pub accepted : survey_from words (given_by words holds) ≡ Ok survey
@@ -174,6 +182,8 @@ pub record RunWrote (words : List (List ℕ)) (holds : List ℕ → Option (List
       ∷ whole (slice_index_or (writes_of words) 3 []) (tables_text survey.schema survey.spine tables)
       ∷ whole (slice_index_or (writes_of words) 4 []) (pricing_text (run_inputs survey measurements) price)
       ∷ whole dash (ran_ending survey measurements taken tables).report ∷ []) old new
+  pub answered : IsAnsweredYes (followed 3 (totals_text survey.spine (state_counts survey.spine survey.records) ∷ measurements_text survey.schema survey.spine measurements
+      ∷ tables_text survey.schema survey.spine tables ∷ pricing_text (run_inputs survey measurements) price ∷ []) (given_by words holds)) survey.spine (total_deviation (run_inputs survey measurements) tables)
 
 -- the prices of a case certify its tables, which are therefore a release over its inputs, whoever wrote them
 pub record IsCertifiedCase (c : Case) : Type 0 where

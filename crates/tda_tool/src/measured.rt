@@ -1,19 +1,22 @@
 // What `measure` answers.
-ghost use Rattle.std.specs.Prelude.{◌≡◌, ◌<◌, ◌≤◌, ◌++◌, codes, length, string_bytes, sum, IfOk, OnOk, Err};
+ghost use Rattle.std.specs.Prelude.{◌≡◌, ◌<◌, ◌≤◌, ◌^◌, ◌++◌, codes, length, string_bytes, sum, IfOk, OnOk, Ok, Err};
 ghost use Rattle.tda_frac.specs.Fraction.{IsAtMost, text_of};
 ghost use Rattle.tda_model.specs.Bounds.{persons_limit};
+ghost use Rattle.tda_model.specs.Sizes.{place_count, places_limit};
 ghost use Rattle.tda_schema.specs.Shares.{frac_of, spent_of};
+ghost use Rattle.tda_invar.specs.Totals as totals_file;
 ghost use Rattle.tda_invar.specs.Totals.{totals_text};
 ghost use Rattle.tda_ledger.specs.LedgerText.{ledger_text};
 ghost use Rattle.tda_out.specs.Counts.{count_at, AreCountsOf};
 ghost use Rattle.tda_hist.specs.TrueTable.{state_persons};
+ghost use Rattle.tda_places.specs.Measurements as measurements_file;
 ghost use Rattle.tda_places.specs.Measurements.{measurements_text, AreMeasurementsOf};
 ghost use Rattle.tda_places.specs.Places.{places_of};
 ghost use Rattle.tda_measure.specs.Noise.{variances_of, IsDetermined, IsNoise};
 ghost use Rattle.tda_inputs.specs.Reading.{noise_words};
 ghost use Rattle.tda_tool.specs.Measuring.{place_text, measured_ending};
 ghost use Rattle.tda_tool.specs.Ending.{out_of_words_ending, too_large_ending};
-ghost use Rattle.tda_tool.specs.Answer.{IsOutput, ReportsAlone, Tells, AreMeasuredFiles, AnswersBy, AnswersNoise, MeasuresWith, ComesTo, CanBeMeasured};
+ghost use Rattle.tda_tool.specs.Answer.{IsOutput, ReportsAlone, Tells, AreMeasuredFiles, AreMeasuredBack, AnswersBy, AnswersNoise, MeasuresWith, ComesTo, CanBeMeasured};
 
 use crate::answer::{Answer, Cause, Output};
 use crate::draw::{Drawn, draw};
@@ -79,7 +82,9 @@ fn measurements_output(
 ) -> Result<Output, NoMemory>
     requires belong { counted.now.spine.depth ≡ length counted.now.schema.levels }
     requires measured { AreMeasurementsOf counted.now.schema counted.now.spine m.now }
-    ensures { IfOk result (IsOutput (codes "measurements") (measurements_text counted.now.schema counted.now.spine m.now)) }
+    ensures output { IfOk result (IsOutput (codes "measurements") (measurements_text counted.now.schema counted.now.spine m.now)) }
+    ensures read { IfOk result (λ o. measurements_file.read counted.now.schema counted.now.spine (measurements_text counted.now.schema counted.now.spine m.now) ≡ Ok m.now) }
+    ensures short { IfOk result (λ o. place_count counted.now.schema counted.now.spine ≤ places_limit → length (measurements_text counted.now.schema counted.now.spine m.now) ≤ 2 ^ 30) }
 {
     let mut text = Vec::new(alloc);
     write_measurements(&counted.schema, &counted.spine, m, &mut text)?;
@@ -93,7 +98,9 @@ fn measurements_output(
 fn totals_output(alloc: Global, counted: &Counted) -> Result<Output, NoMemory>
     requires tables { AreCountsOf counted.now.schema counted.now.spine counted.now.tables }
     requires few { sum (state_persons counted.now.schema counted.now.spine (count_at counted.now.tables)) ≤ persons_limit }
-    ensures { IfOk result (IsOutput (codes "totals") (totals_text counted.now.spine (state_persons counted.now.schema counted.now.spine (count_at counted.now.tables)))) }
+    ensures output { IfOk result (IsOutput (codes "totals") (totals_text counted.now.spine (state_persons counted.now.schema counted.now.spine (count_at counted.now.tables)))) }
+    ensures read { IfOk result (λ o. totals_file.read counted.now.spine (totals_text counted.now.spine (state_persons counted.now.schema counted.now.spine (count_at counted.now.tables))) ≡ Ok (state_persons counted.now.schema counted.now.spine (count_at counted.now.tables))) }
+    ensures short { IfOk result (λ o. length (totals_text counted.now.spine (state_persons counted.now.schema counted.now.spine (count_at counted.now.tables))) ≤ 2 ^ 28) }
 {
     let totals = state_totals(alloc, &counted.schema, &counted.spine, &counted.tables)?;
     let mut text = Vec::new(alloc);
@@ -153,6 +160,7 @@ pub(crate) fn measured_outputs(
     requires few { sum (state_persons counted.now.schema counted.now.spine (count_at counted.now.tables)) ≤ persons_limit }
     ensures outputs { IfOk result (λ v. AreMeasuredFiles counted.now.schema counted.now.spine m.now (state_persons counted.now.schema counted.now.spine (count_at counted.now.tables)) v.items) }
     ensures within { IfOk result (λ v. IsAtMost (frac_of (spent_of counted.now.schema)) (frac_of counted.now.schema.total)) }
+    ensures back { IfOk result (λ v. AreMeasuredBack counted.now.schema counted.now.spine m.now (state_persons counted.now.schema counted.now.spine (count_at counted.now.tables))) }
 {
     let mut outputs = Vec::new(alloc);
     outputs.push(measurements_output(alloc, counted, m)?)?;

@@ -84,7 +84,7 @@ pub fn tool<I: Inbox, O: Outbox>(
         ReportsDue (map string_bytes words.now) s.holds (O.told outbox.old) (O.told outbox.new)) }
 
     // The tables that `fit` writes are a release over what the inbox holds, as the prices show that it writes, and nothing
-    // else is written but the report.
+    // else is written but the report. An audit of what it read and wrote is answered yes.
     ensures fit_wrote { result ≡ 0 → command_of (map string_bytes words.now) ≡ Some Command.Fit → IfSome (I.told inbox.old) (λ s.
         FitWrote (map string_bytes words.now) s.holds (O.told outbox.old) (O.told outbox.new)) }
 
@@ -94,7 +94,8 @@ pub fn tool<I: Inbox, O: Outbox>(
         MeasureWrote (map string_bytes words.now) s.holds (O.told outbox.old) (O.told outbox.new)) }
 
     // What `run` writes: the measurements, totals and ledger as `measure` does, and tables that are a release over the written
-    // measurements and totals, as the prices show that it writes, and nothing else but the report.
+    // measurements and totals, as the prices show that it writes, and nothing else but the report. An audit of what it read
+    // and wrote is answered yes.
     ensures run_wrote { result ≡ 0 → command_of (map string_bytes words.now) ≡ Some Command.Run → IfSome (I.told inbox.old) (λ s.
         RunWrote (map string_bytes words.now) s.holds (O.told outbox.old) (O.told outbox.new)) }
 

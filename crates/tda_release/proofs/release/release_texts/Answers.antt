@@ -55,6 +55,8 @@ returns-in-Ok c =
         numbers = back.numbers;
         tables_back = let is = back.tables_back in search rules;
         prices_back = let is = back.prices_back in search rules;
+        certified = back.certified;
+        deviation = let is = back.deviation in search rules;
         yes = back.yes;
       };
     }
