@@ -9,7 +9,7 @@ use std::alloc::Global;
 use std::process::Abort;
 use std::test::Fail;
 use tda_audit::{Verdict, audit};
-use tda_fitnet::ArcName::{Give, Group};
+use tda_fitnet::ArcName::{Give, Group, Share};
 use tda_fixtures::{BLOCK_TOTALS, TWO_BLOCKS, TWO_STATES};
 use tda_flow::Side::{Down, Up};
 use tda_invar::{Invariants, join, read_facilities, read_totals};
@@ -117,6 +117,26 @@ const FIVE: Nation = Nation {
             prices: "-,group,US,0,0\nUS,cell,-,0,0\nUS,group,S1,0,0\nS1,cell,-,0,2\nS1,group,B1,0,2\nS1,group,B2,0,2\n",
             verdict: Verdict::Total { state: 1 },
         },
+        // The state's total is both bounds of its group, so no price of it is wrong.
+        Case {
+            tables: "US,0,5\nS1,0,5\nB1,0,2\nB2,0,3\n",
+            prices: "-,group,US,0,0\nUS,cell,-,0,7\nUS,group,S1,0,7\nS1,cell,-,0,2\nS1,group,B1,0,2\nS1,group,B2,0,2\n",
+            verdict: Verdict::Yes,
+        },
+        Case {
+            tables: "US,0,5\nS1,0,5\nB1,0,2\nB2,0,3\n",
+            prices: "-,group,US,0,0\nUS,cell,-,0,-7\nUS,group,S1,0,-7\nS1,cell,-,0,2\nS1,group,B1,0,2\nS1,group,B2,0,2\n",
+            verdict: Verdict::Yes,
+        },
+        Case {
+            tables: "US,0,5\nS1,0,5\nB1,0,2\nB2,0,3\n",
+            prices: "-,group,US,0,-79228162514264337593543950336\nUS,cell,-,0,0\nUS,group,S1,0,0\nS1,cell,-,0,2\nS1,group,B1,0,2\nS1,group,B2,0,2\n",
+            verdict: Verdict::Arc {
+                fit: None,
+                arc: Give { unit: 0, cell: 0 },
+                side: Down,
+            },
+        },
         // A sum past 2^30 is judged before any loss is asked.
         Case {
             tables: "US,0,1073741824\nS1,0,1073741824\nB1,0,1073741824\nB2,0,1073741824\n",
@@ -124,6 +144,44 @@ const FIVE: Nation = Nation {
             verdict: Verdict::Sum { unit: 1, cell: 0 },
         },
     ],
+};
+
+// The same five persons, where the state has a price that its share doesn't bear.
+const DEAR_STATE: Nation = Nation {
+    schema: BLOCK_TOTALS,
+    spine: TWO_BLOCKS,
+    facilities: "block,kind,count\n",
+    totals: "state,total\nS1,5\n",
+    measurements: "unit,query,class,value\nB1,total,0,3\nB2,total,0,4\n",
+    root: "fit,part,unit,item,price\n-,state,S1,0,1\n-,kind,-,0,0\n",
+    cases: &[Case {
+        tables: "US,0,5\nS1,0,5\nB1,0,2\nB2,0,3\n",
+        prices: "-,group,US,0,0\nUS,cell,-,0,0\nUS,group,S1,0,0\nS1,cell,-,0,2\nS1,group,B1,0,2\nS1,group,B2,0,2\n",
+        verdict: Verdict::Arc {
+            fit: None,
+            arc: Share { state: 1, kind: 0 },
+            side: Down,
+        },
+    }],
+};
+
+// And where the kind has.
+const DEAR_KIND: Nation = Nation {
+    schema: BLOCK_TOTALS,
+    spine: TWO_BLOCKS,
+    facilities: "block,kind,count\n",
+    totals: "state,total\nS1,5\n",
+    measurements: "unit,query,class,value\nB1,total,0,3\nB2,total,0,4\n",
+    root: "fit,part,unit,item,price\n-,state,S1,0,0\n-,kind,-,0,1\n",
+    cases: &[Case {
+        tables: "US,0,5\nS1,0,5\nB1,0,2\nB2,0,3\n",
+        prices: "-,group,US,0,0\nUS,cell,-,0,0\nUS,group,S1,0,0\nS1,cell,-,0,2\nS1,group,B1,0,2\nS1,group,B2,0,2\n",
+        verdict: Verdict::Arc {
+            fit: None,
+            arc: Share { state: 1, kind: 0 },
+            side: Up,
+        },
+    }],
 };
 
 // Where 3 and 3 were measured two tables cost the same, and the same prices certify both.
@@ -186,6 +244,55 @@ const STATES: Nation = Nation {
             verdict: Verdict::Total { state: 1 },
         },
     ],
+};
+
+// The same states, whose rows stand from the blocks up: B2 is unit 0, S2 unit 1, B1 unit 2, S1 unit 3, and the nation unit 4. Units go by these numbers,
+// and fits from the nation down.
+const UPWARDS: Nation = Nation {
+    schema: BLOCK_TOTALS,
+    spine: "unit,level,parent\nB2,block,S2\nS2,state,US\nB1,block,S1\nS1,state,US\nUS,nation,\n",
+    facilities: "block,kind,count\n",
+    totals: "state,total\nS1,2\nS2,3\n",
+    measurements: "unit,query,class,value\nB2,total,0,4\nB1,total,0,3\n",
+    root: "fit,part,unit,item,price\n-,state,S2,0,0\n-,state,S1,0,0\n-,kind,-,0,0\n",
+    cases: &[
+        Case {
+            tables: "US,0,5\nS2,0,3\nS1,0,2\nB2,0,3\nB1,0,2\n",
+            prices: "-,group,US,0,0\nUS,cell,-,0,0\nUS,group,S2,0,0\nUS,group,S1,0,0\nS2,cell,-,0,2\nS2,group,B2,0,2\nS1,cell,-,0,2\nS1,group,B1,0,2\n",
+            verdict: Verdict::Yes,
+        },
+        // Neither the nation's children add up to it nor those of S2, which comes first.
+        Case {
+            tables: "US,0,6\nS2,0,3\nS1,0,2\nB2,0,2\nB1,0,2\n",
+            prices: "-,group,US,0,0\nUS,cell,-,0,0\nUS,group,S2,0,0\nUS,group,S1,0,0\nS2,cell,-,0,2\nS2,group,B2,0,2\nS1,cell,-,0,2\nS1,group,B1,0,2\n",
+            verdict: Verdict::Sum { unit: 1, cell: 0 },
+        },
+        // Arcs fail in the fits of the nation and of S2, and the nation's comes first.
+        Case {
+            tables: "US,0,5\nS2,0,3\nS1,0,2\nB2,0,3\nB1,0,2\n",
+            prices: "-,group,US,0,0\nUS,cell,-,0,1\nUS,group,S2,0,0\nUS,group,S1,0,0\nS2,cell,-,0,0\nS2,group,B2,0,0\nS1,cell,-,0,2\nS1,group,B1,0,2\n",
+            verdict: Verdict::Arc {
+                fit: Some(4),
+                arc: Give { unit: 1, cell: 0 },
+                side: Down,
+            },
+        },
+    ],
+};
+
+// Two cells, of which each may have 2^30 persons: that all are too many is judged before any loss is asked.
+const TWO_CELLS: Nation = Nation {
+    schema: "version = 1\ntotal = '1'\nattribute = [{ name = 'kind', values = ['house'] }, { name = 'age', values = ['minor', 'adult'] }]\nlevel = [{ name = 'nation' }, { name = 'state' }, { name = 'block', query = [{ name = 'total', by = [], share = '1' }] }]",
+    spine: TWO_BLOCKS,
+    facilities: "block,kind,count\n",
+    totals: "state,total\nS1,5\n",
+    measurements: "unit,query,class,value\nB1,total,0,3\nB2,total,0,4\n",
+    root: "fit,part,unit,item,price\n-,state,S1,0,0\n-,kind,-,0,0\n",
+    cases: &[Case {
+        tables: "US,0,1073741824\nUS,1,1073741824\nS1,0,1073741824\nS1,1,1073741824\nB1,0,1073741824\nB1,1,1073741824\n",
+        prices: "-,group,US,0,0\nUS,cell,-,0,0\nUS,cell,-,1,0\nUS,group,S1,0,0\nS1,cell,-,0,0\nS1,cell,-,1,0\nS1,group,B1,0,0\nS1,group,B2,0,0\n",
+        verdict: Verdict::Total { state: 1 },
+    }],
 };
 
 // A dormitory of two persons in B1.
@@ -349,6 +456,22 @@ fn prices_that_certify_two_tables(rt: HostRuntime) -> Result<(), Fail> {
 #[test]
 fn prices_of_states_that_stand_apart(rt: HostRuntime) -> Result<(), Fail> {
     of_nation(&rt, rt.alloc(), &STATES)
+}
+
+#[test]
+fn units_in_file_order_and_fits_from_the_nation_down(rt: HostRuntime) -> Result<(), Fail> {
+    of_nation(&rt, rt.alloc(), &UPWARDS)
+}
+
+#[test]
+fn prices_of_a_state_and_of_a_kind(rt: HostRuntime) -> Result<(), Fail> {
+    of_nation(&rt, rt.alloc(), &DEAR_STATE)?;
+    of_nation(&rt, rt.alloc(), &DEAR_KIND)
+}
+
+#[test]
+fn more_persons_than_there_may_be(rt: HostRuntime) -> Result<(), Fail> {
+    of_nation(&rt, rt.alloc(), &TWO_CELLS)
 }
 
 #[test]

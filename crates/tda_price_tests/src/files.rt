@@ -41,7 +41,7 @@ const KEPT: [(Option<u32>, u64, i128); 5] = [
     (Some(1), 2, 4),
 ];
 
-const WRONG_PRICES: [(&str, PriFault); 14] = [
+const WRONG_PRICES: [(&str, PriFault); 15] = [
     ("", PriFault::BadHeader(1)),
     ("fit,part,unit,price,item\n", PriFault::BadHeader(1)),
     ("fit,part,unit,price\n", PriFault::BadHeader(1)),
@@ -73,6 +73,10 @@ const WRONG_PRICES: [(&str, PriFault); 14] = [
     ),
     (
         "fit,part,unit,item,price\n-,state,S1,0,79228162514264337593543950337\n",
+        PriFault::BadNumber(2),
+    ),
+    (
+        "fit,part,unit,item,price\n-,state,S1,0,-79228162514264337593543950337\n",
         PriFault::BadNumber(2),
     ),
     (

@@ -4,6 +4,7 @@ use Rattle.std.specs.List.{list_any, zip}
 use Rattle.tda_schema.specs.Shares.{frac_of, spent_of}
 use Rattle.tda_measure.specs.Noise.{variances_of, NoiseStops}
 use Rattle.tda_measure.specs.declared.stop.MeasureStop.{MeasureStop}
+use Rattle.tda_model.specs.Spine.{Spine}
 use Rattle.tda_model.specs.Tables.{Tables}
 use Rattle.tda_model.specs.Release.{Inputs, IsRelease}
 use Rattle.tda_prices.specs.Items.{Pricing}

@@ -2,6 +2,8 @@
 #![tactic(auto)]
 
 #[cfg(test)]
+mod answered_tests;
+#[cfg(test)]
 mod audit_tests;
 #[cfg(test)]
 mod failure_tests;

@@ -1,13 +1,7 @@
 // Runs of `run`.
-use crate::samples::{FACILITIES, HOUSES, ONES, RECORDS, RUN, SPINE, shown_but};
+use crate::samples::{FACILITIES, HOUSES, MINUS_ONES, ONES, RECORDS, RUN, SPINE, shown_but};
 use std::alloc::Global;
 use std::test::Fail;
-
-// Twice the six words that give the noise -1.
-const MINUS_ONES: [u8; 48] = [
-    1, 0, 0, 0, 1, 0, 0, 0, 0, 0, 0, 0, 1, 0, 0, 0, 0, 0, 0, 0, 7, 0, 0, 0, 1, 0, 0, 0, 1, 0, 0, 0,
-    0, 0, 0, 0, 1, 0, 0, 0, 0, 0, 0, 0, 7, 0, 0, 0,
-];
 
 // What a command with these words comes to on the houses, records, and words or a seed. Prices aren't shown: others would do.
 fn ran_by(

@@ -33,6 +33,12 @@ pub(crate) const ONES: [u8; 48] = [
     0, 0, 0, 0, 1, 0, 0, 0, 1, 0, 0, 0, 7, 0, 0, 0,
 ];
 
+// Twice the six words that give the noise -1.
+pub(crate) const MINUS_ONES: [u8; 48] = [
+    1, 0, 0, 0, 1, 0, 0, 0, 0, 0, 0, 0, 1, 0, 0, 0, 0, 0, 0, 0, 7, 0, 0, 0, 1, 0, 0, 0, 1, 0, 0, 0,
+    0, 0, 0, 0, 1, 0, 0, 0, 0, 0, 0, 0, 7, 0, 0, 0,
+];
+
 // Two kinds of quarters, and a state whose first block has a dormitory.
 pub(crate) const DORMITORY: &str =
     "version = 1\ntotal = \"1\"\n\n[[attribute]]\nname = \"kind\"\nvalues = [\"house\", \"dorm\"]\n\n[[level]]\nname = \"nation\"\nquery = [{ name = \"kind\", by = [\"kind\"], share = \"1/2\" }]\n\n[[level]]\nname = \"state\"\n\n[[level]]\nname = \"block\"\nquery = [{ name = \"kind\", by = [\"kind\"], share = \"1/2\" }]\n";
