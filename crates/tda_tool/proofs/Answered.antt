@@ -15,7 +15,6 @@ use Rattle.tda_release.specs.Certified.{total_deviation}
 use Rattle.tda_inputs.specs.Ending.{Ending, or_refused, judged_within}
 use Rattle.tda_inputs.specs.Survey.{Survey}
 use Rattle.tda_inputs.specs.Accepted.{Given, Case, base_from, totals_from, measurements_from, inputs_from, survey_from, records_from, tables_from, prices_from, case_from}
-use Rattle.tda_inputs.specs.declared.base.Base.{Base}
 use Rattle.tda_inputs.proofs.Gathered.{inputs_with, after_base, after_totals}
 use Rattle.tda_inputs.proofs.Cases.{after_inputs, after_tables}
 use Rattle.tda_invar.specs.Totals.{totals_text}
@@ -94,7 +93,6 @@ pub inputs_read : (words : List (List ℕ)) (g : Given) (v : Survey) (m : List �
     → totals_from (record { schema = v.schema; spine = v.spine; facilities = v.facilities }) (Some totals_file) ≡ Ok totals → measurements_from v.schema v.spine (Some measurements_file) ≡ Ok m
     → inputs_from (followed 3 (totals_file ∷ measurements_file ∷ rest) g) ≡ Ok (inputs_with (record { schema = v.schema; spine = v.spine; facilities = v.facilities }) totals m)
 inputs_read words g v m totals totals_file measurements_file rest is totals_are measurements_are =
-    let b : Base = record { schema = v.schema; spine = v.spine; facilities = v.facilities } in
     let held = followed 3 (totals_file ∷ measurements_file ∷ rest) g in
     ap (λ r. r >>= (λ x. after_base x held)) (base_of words g v is)
     ∙ ap (λ r. r >>= (λ t. after_totals b t held)) totals_are
