@@ -15,12 +15,12 @@ import tempfile
 import release
 from made import build
 
-# How many units each level has.
-SPINES = [[1, 3, 16, 80, 640], [1, 10, 90, 899, 7_192], [1, 30, 400, 9_569, 76_552]]
+# How many units each level has: ten times the fits have ten times the units, and so about ten times the arcs.
+SPINES = [[1, 3, 16, 80, 640], [1, 10, 189, 800, 6_400], [1, 30, 1_969, 8_000, 64_000]]
 LEVELS = ["nation", "state", "county", "tract", "block"]
 AGES = 4
 FITS_IN_ALL = 40_000
-ROUNDS = 7
+ROUNDS = 25
 MOST_RATIO = 12
 USES = ["tda_fitnet", "tda_flow", "tda_places", "tda_groups", "tda_invar", "tda_spine", "tda_schema", "tda_model", "tda_io"]
 
