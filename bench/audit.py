@@ -153,12 +153,25 @@ fn read_over(
 }
 
 fn read_all(alloc: Global, files: &[Vec<u8>], times: u32) -> u32 {
-    let [schema, spine, facilities, totals, measurements, tables, prices] = files else {
+    let [
+        schema,
+        spine,
+        facilities,
+        totals,
+        measurements,
+        tables,
+        prices,
+    ] = files
+    else {
         return 0;
     };
-    let few = schema.len() <= LIMIT && spine.len() <= LIMIT && facilities.len() <= LIMIT;
-    let short = totals.len() <= LIMIT && measurements.len() <= LIMIT;
-    if !few || !short || tables.len() > LIMIT || prices.len() > LIMIT {
+    if schema.len() > LIMIT || spine.len() > LIMIT || facilities.len() > LIMIT {
+        return 0;
+    }
+    if totals.len() > LIMIT || measurements.len() > LIMIT {
+        return 0;
+    }
+    if tables.len() > LIMIT || prices.len() > LIMIT {
         return 0;
     }
     let Ok(schema) = read_schema(alloc, schema) else {
