@@ -13,11 +13,11 @@ import sys
 import tempfile
 
 import release
+from fit import LEVELS, write_spine
 from made import build
 
 # How many units each level has: ten times the fits have ten times the units, and so about ten times the arcs.
 SPINES = [[1, 3, 16, 80, 640], [1, 10, 189, 800, 6_400], [1, 30, 1_969, 8_000, 64_000]]
-LEVELS = ["nation", "state", "county", "tract", "block"]
 AGES = 4
 FITS_IN_ALL = 40_000
 ROUNDS = 25
@@ -291,15 +291,6 @@ pub split_net-requires-clause-few : goal.split_net-requires-clause-few
 split_net-requires-clause-few g =
     omega (arith, sum_none (slice_index g.args.table.now) (all_zero _ _ g.requires.table) (all_cells g.args.schema.now))
 '''}
-
-
-def write_spine(folder, counts):
-    with open(folder / "spine.csv", "w") as file:
-        file.write("unit,level,parent\n")
-        for level, count in enumerate(counts):
-            for i in range(count):
-                parent = f"u{level - 1}.{i * counts[level - 1] // count}" if level else ""
-                file.write(f"u{level}.{i},{LEVELS[level]},{parent}\n")
 
 
 def write_files(folder, counts):
