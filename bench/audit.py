@@ -5,8 +5,8 @@ The releases are those of fit.py, measured by `tda measure` and fitted by `tda f
 built in a temporary folder outside the repository reads their files and audits them again and again, or only reads them,
 or only goes through their rows by the csv crate.  Prints for each size the milliseconds of one audit without its reading,
 the ratio to the former size, which is at most 4.6 for four times the units, the milliseconds of one reading and of one
-loop over the rows, and how many times those an audit takes.  An audit that takes more than twice its reading is said so,
-and is no failure.  Usage: bench/audit.py [PROGRAM]   (made by ./tda: crates/tda/out/tda)
+loop over the rows, those of a whole run of `tda audit`, and how many readings and loops that takes.  A run that takes more
+than twice the reading is said so, and is no failure.  Usage: bench/audit.py [PROGRAM]   (made by ./tda: crates/tda/out/tda)
 """
 import pathlib
 import sys
@@ -17,11 +17,11 @@ from fit import TOP, words_of, write_release
 from made import build
 
 SIZES = [1_000, 4_000, 16_000]
-UNITS_IN_ALL = 64_000
-ROUNDS = 5
+UNITS_IN_ALL = 256_000
+ROUNDS = 7
 MOST_RATIO = 4.6
 READINGS = 2
-TABLES = ["spine.csv", "facilities.csv", "totals.csv", "measurements.csv", "tables.csv", "prices.csv"]
+FILES = ["schema", "spine", "facilities", "totals", "measurements", "tables", "prices"]
 USES = ["tda_audit", "tda_prices", "tda_out", "tda_places", "tda_invar", "tda_spine", "tda_schema", "tda_loss", "tda_io", "csv"]
 
 PROGRAM = r'''
@@ -153,12 +153,25 @@ fn read_over(
 }
 
 fn read_all(alloc: Global, files: &[Vec<u8>], times: u32) -> u32 {
-    let [schema, spine, facilities, totals, measurements, tables, prices] = files else {
+    let [
+        schema,
+        spine,
+        facilities,
+        totals,
+        measurements,
+        tables,
+        prices,
+    ] = files
+    else {
         return 0;
     };
-    let few = schema.len() <= LIMIT && spine.len() <= LIMIT && facilities.len() <= LIMIT;
-    let short = totals.len() <= LIMIT && measurements.len() <= LIMIT;
-    if !few || !short || tables.len() > LIMIT || prices.len() > LIMIT {
+    if schema.len() > LIMIT || spine.len() > LIMIT || facilities.len() > LIMIT {
+        return 0;
+    }
+    if totals.len() > LIMIT || measurements.len() > LIMIT {
+        return 0;
+    }
+    if tables.len() > LIMIT || prices.len() > LIMIT {
         return 0;
     }
     let Ok(schema) = read_schema(alloc, schema) else {
@@ -221,48 +234,59 @@ def made(tda, folder, units):
     """Makes the files of a release of so many units in a folder of their own."""
     folder.mkdir()
     write_release(folder, units)
-    inputs = ["schema", "spine", "facilities"]
-    measure = words_of("measure", folder, inputs + ["records", "seed", "measurements", "totals", "ledger"],
+    measure = words_of("measure", folder, FILES[:3] + ["records", "seed", "measurements", "totals", "ledger"],
                        ["--place", "0", "--budget", str(2**32)])
-    fit = words_of("fit", folder, inputs + ["totals", "measurements", "tables", "prices"])
-    for words, report in [(measure, "ok measure"), (fit, "ok fit")]:
-        _, _, status, said = release.run([tda, *words])
-        if status != 0 or not said.startswith(report):
-            sys.exit(f"status {status}: {said}")
+    command_seconds(tda, measure)
+    command_seconds(tda, words_of("fit", folder, FILES))
+
+
+def command_seconds(tda, words):
+    """The processor's seconds of one command of `tda`, which has to end well."""
+    seconds, _, status, said = release.run([tda, *words])
+    if status != 0 or not said.startswith(f"ok {words[0]} "):
+        sys.exit(f"status {status}: {said}")
+    return seconds
 
 
 def seconds_of(program, folder, what, times):
     """The processor's seconds of one run that does its work so many times."""
-    seconds, _, status, said = release.run([program, what, times, folder / "schema.toml", *(folder / name for name in TABLES)])
+    paths = words_of(what, folder, FILES)[2::2]
+    seconds, _, status, said = release.run([program, what, times, *paths])
     if status != 0 or said != str(times):
         sys.exit(f"{what}, {times} times: status {status}, {said}")
     return seconds
 
 
-def measured(program, folders):
+def measured(program, tda, folders):
     """For each size and what is done with its files: the seconds of doing it once, by the best of some rounds, each of
     which goes through all sizes, so that a time in which the machine is busy falls on each alike."""
-    best = {}
+    best, whole = {}, {}
     for _ in range(ROUNDS):
         for size, folder in folders.items():
+            found = command_seconds(tda, words_of("audit", folder, FILES))
+            whole[size, "tda"] = min(found, whole.get((size, "tda"), found))
             for what in ["audit", "read", "rows"]:
                 for times in [0, UNITS_IN_ALL // size]:
                     found = seconds_of(program, folder, what, times)
                     best[size, what, times] = min(found, best.get((size, what, times), found))
-    return {(size, what): (best[size, what, times] - best[size, what, 0]) / times for size, what, times in best if times}
+    each = {(size, what): (best[size, what, times] - best[size, what, 0]) / times for size, what, times in best if times}
+    return each | whole
 
 
 def print_times(found):
     """Prints what an audit of each size takes, and whether its growth is within the limit."""
-    print(f"{'units':>8} {'audit ms':>9} {'ratio':>6} {'read ms':>8} {'times':>6} {'rows ms':>8} {'times':>6}")
+    print(f"{'units':>8} {'audit ms':>9} {'ratio':>6} {'read ms':>8} {'rows ms':>8} {'tda ms':>8} {'readings':>8} {'loops':>6}")
     former, good = None, True
     for size in SIZES:
-        audit, read, rows = (found[size, what] for what in ["audit", "read", "rows"])
+        audit, read, rows, whole = (found[size, what] for what in ["audit", "read", "rows", "tda"])
         ratio = "" if former is None else f"{audit / former:.2f}"
         good = good and (former is None or audit / former <= MOST_RATIO)
-        print(f"{size:>8} {audit * 1e3:>9.2f} {ratio:>6} {read * 1e3:>8.2f} {audit / read:>6.2f} {rows * 1e3:>8.2f} {audit / rows:>6.2f}")
-        if audit > READINGS * read:
-            print(f"{size} units: an audit takes more than {READINGS} times as long as the reading of its files")
+        print(
+            f"{size:>8} {audit * 1e3:>9.2f} {ratio:>6} {read * 1e3:>8.2f} {rows * 1e3:>8.2f} {whole * 1e3:>8.2f}"
+            f" {whole / read:>8.2f} {whole / rows:>6.2f}"
+        )
+        if whole > READINGS * read:
+            print(f"{size} units: a run takes more than {READINGS} times as long as the reading of its files")
         former = audit
     return good
 
@@ -275,7 +299,7 @@ def main():
         for size, folder in folders.items():
             made(tda, folder, size)
         program = build(top, "bench_audit", USES, PROGRAM)
-        sys.exit(0 if print_times(measured(program, folders)) else 1)
+        sys.exit(0 if print_times(measured(program, tda, folders)) else 1)
 
 
 if __name__ == "__main__":

@@ -39,17 +39,22 @@ def counts_of(units):
     return counts + [units - sum(counts)]
 
 
-def write_release(folder, units):
-    """The files that a measuring reads: three persons in each block on the average, a dormitory in each third block."""
-    counts, draw = counts_of(units), random.Random(units)
-    (folder / "schema.toml").write_text(HEAD + "".join(QUERIES.format(level=level) for level in LEVELS))
-    (folder / "seed").write_bytes(bytes(32))
+def write_spine(folder, counts):
+    """A spine with so many units at each level, whose children are spread evenly."""
     with open(folder / "spine.csv", "w") as file:
         file.write("unit,level,parent\n")
         for level, count in enumerate(counts):
             for i in range(count):
                 parent = f"u{level - 1}.{i * counts[level - 1] // count}" if level else ""
                 file.write(f"u{level}.{i},{LEVELS[level]},{parent}\n")
+
+
+def write_release(folder, units):
+    """The files that a measuring reads: three persons in each block on the average, a dormitory in each third block."""
+    counts, draw = counts_of(units), random.Random(units)
+    (folder / "schema.toml").write_text(HEAD + "".join(QUERIES.format(level=level) for level in LEVELS))
+    (folder / "seed").write_bytes(bytes(32))
+    write_spine(folder, counts)
     with open(folder / "facilities.csv", "w") as facilities, open(folder / "records.csv", "w") as records:
         facilities.write("block,kind,count\n")
         records.write("block,kind,sex,age\n")

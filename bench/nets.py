@@ -13,16 +13,16 @@ import sys
 import tempfile
 
 import release
+from fit import LEVELS, write_spine
 from made import build
 
-# How many units each level has.
-SPINES = [[1, 3, 16, 80, 640], [1, 10, 90, 899, 7_192], [1, 30, 400, 9_569, 76_552]]
-LEVELS = ["nation", "state", "county", "tract", "block"]
+# How many units each level has: ten times the fits have ten times the units, and so about ten times the arcs.
+SPINES = [[1, 3, 16, 80, 640], [1, 10, 189, 800, 6_400], [1, 30, 1_969, 8_000, 64_000]]
 AGES = 4
 FITS_IN_ALL = 40_000
-ROUNDS = 7
+ROUNDS = 25
 MOST_RATIO = 12
-USES = ["tda_fitnet", "tda_flow", "tda_places", "tda_groups", "tda_invar", "tda_spine", "tda_schema", "tda_io"]
+USES = ["tda_fitnet", "tda_flow", "tda_places", "tda_groups", "tda_invar", "tda_spine", "tda_schema", "tda_model", "tda_io"]
 
 PROGRAM = r'''
 //! Makes the nets of all fits again and again, for tables of zeros.
@@ -183,7 +183,11 @@ fn counted(
     measurements: &[u8],
     times: u32,
 ) -> Result<u64, NoMemory> {
-    if schema.len() > LIMIT || spine.len() > LIMIT || facilities.len() > LIMIT || measurements.len() > LIMIT {
+    if schema.len() > LIMIT
+        || spine.len() > LIMIT
+        || facilities.len() > LIMIT
+        || measurements.len() > LIMIT
+    {
         return Ok(0);
     }
     let Ok(schema) = read_schema(alloc, schema) else {
@@ -224,12 +228,12 @@ fn main(rt: HostRuntime) -> io::Result<()> {
 '''
 # Nobody anywhere is a table that each unit can have, where there is one kind and no state has persons.
 ANSWERS = {"split_arcs": r'''
-use Rattle.std.proofs.Common.{◌≡◌, ℕ, ◌<◌, ◌≤◌, List, [], ◌∷◌, get_or, replicate, length, sum_by, All, Some, None, refl, sym, ap, subst, ◌∙◌, inl, inr, arith}
+use Rattle.std.proofs.Common.{◌≡◌, ℕ, ◌<◌, ◌≤◌, List, get_or, slice_index, replicate, length, sum_by, All, Option, Some, None, refl, sym, ap, ◌∙◌, inl, inr, arith}
 use Rattle.std.proofs.Math.ListN.{get_or-eq_default}
 use Rattle.std.proofs.lemmas.Bool.{cases_lt}
 use Rattle.std.proofs.lemmas.List.{length-replicate, get_or-replicate}
 use Rattle.std.proofs.lemmas.List.Elements.{All-from_get_or}
-use Rattle.std.proofs.lemmas.List.Sums.{sum_by-cons}
+use Rattle.tda_model.proofs.Sums.{each_any, sum_same, sum_zero}
 use Rattle.tda_model.specs.Schema.{Schema}
 use Rattle.tda_model.specs.Cells.{all_cells}
 use Rattle.tda_model.specs.Groups.{kind_count}
@@ -239,23 +243,24 @@ use Rattle.tda_invar.specs.Known.{known_of}
 use Rattle.tda_invar.specs.Totals.{total_of, state_place}
 use Rattle.bench_nets.proofs.split_arcs.Goals as goal
 
-zeros_at : (n i : ℕ) → get_or (replicate n 0) i 0 ≡ 0
+zeros_at : (n i : ℕ) → slice_index (replicate n 0) i ≡ 0
 zeros_at n i = elim (cases_lt i n) [
   | inl less ↦ get_or-replicate n i 0 0 less
-  | inr more ↦ get_or-eq_default (replicate n 0) 0 (omega (arith, more, length-replicate n 0))
+  | inr more ↦ get_or-eq_default (replicate n 0) 0 (omega (arith, more, length-replicate {A = ℕ} n 0))
 ]
 
-all_zero : (xs : List ℕ) (n : ℕ) → xs ≡ replicate n 0 → (i : ℕ) → get_or xs i 0 ≡ 0
-all_zero xs n e i = ap (λ ys. get_or ys i 0) e ∙ zeros_at n i
+all_zero : (xs : List ℕ) (n : ℕ) → xs ≡ replicate n 0 → (i : ℕ) → slice_index xs i ≡ 0
+all_zero xs n e i = ap (λ ys. slice_index ys i) e ∙ zeros_at n i
 
 sum_none : (f : ℕ → ℕ) → ((x : ℕ) → f x ≡ 0) → (xs : List ℕ) → sum_by f xs ≡ 0
-sum_none f none [] = refl
-sum_none f none (x ∷ xs) = omega (arith, sum_by-cons f x xs, none x, sum_none f none xs)
+sum_none f none xs = sum_same f (λ x. 0) xs (each_any _ xs none) ∙ sum_zero xs
 
-no_total : (sp : Spine) (totals : List ℕ) → ((i : ℕ) → get_or totals i 0 ≡ 0) → (u : ℕ) → total_of sp totals u ≡ 0
-no_total sp totals none u = by (state_place sp u)
-    by Some k = none k
-    by None = refl
+no_total : (sp : Spine) (totals : List ℕ) → ((i : ℕ) → slice_index totals i ≡ 0) → (u : ℕ) → total_of sp totals u ≡ 0
+no_total sp totals none u = at_place (state_place sp u)
+  where
+    at_place : (place : Option ℕ) → elim place as (λ _. ℕ) [ Some k ↦ slice_index totals k | None ↦ 0 ] ≡ 0
+    at_place None = refl
+    at_place (Some k) = none k
 
 empty_block : (s : Schema) (known : Published) (b : ℕ) → kind_count s ≡ 1 → FitsBlock s known b (λ j. 0)
 empty_block s known b one = record {
@@ -266,32 +271,26 @@ empty_block s known b one = record {
 
 can_be : (s : Schema) (sp : Spine) (known : Published) (u : ℕ) (x : Table) → kind_count s ≡ 1
     → ((st : ℕ) → known.total st ≡ 0) → ((j : ℕ) → x j ≡ 0) → Attainable s sp known u x
-can_be s sp known u x one total none = (λ b j. 0), record {
-  fits = All-from_get_or _ (blocks_of sp u) 0 (λ i less. empty_block s known _ one);
-  adds = λ j less. none j ∙ sym (sum_none (λ b. 0) (λ b. refl) (blocks_of sp u));
-  totals = All-from_get_or _ (states_of sp u) 0
-      (λ i less. sum_none _ (λ b. sum_none (λ j. 0) (λ j. refl) (all_cells s)) (blocks_of sp _) ∙ sym (total _));
-}
+can_be s sp known u x one total none = (
+  (λ b j. 0),
+  record {
+    fits = All-from_get_or (λ b. FitsBlock s known b (λ j. 0)) (blocks_of sp u) 0 (λ i less. empty_block s known _ one);
+    adds = λ j less. none j ∙ sym (sum_zero (blocks_of sp u));
+    totals = All-from_get_or (λ st. sum_by (λ b. persons_in s (λ j. 0)) (blocks_of sp st) ≡ known.total st) (states_of sp u) 0
+        (λ i less. sum_none _ (λ b. sum_zero (all_cells s)) (blocks_of sp (get_or (states_of sp u) i 0)) ∙ sym (total _));
+  },
+)
 
 pub split_net-requires-clause-can_be : goal.split_net-requires-clause-can_be
-split_net-requires-clause-can_be g c =
-    let sp = c.args.spine.now in
-    can_be c.args.schema.now sp (known_of sp c.args.inv.now) c.args.parent _ c.requires.kinds
-    (no_total sp c.args.inv.now.totals (all_zero _ _ c.requires.totals)) (all_zero _ _ c.requires.table)
+split_net-requires-clause-can_be g =
+    let sp = g.args.spine.now in
+    can_be g.args.schema.now sp (known_of sp g.args.inv.now) g.args.parent _ g.requires.kinds
+    (no_total sp g.args.inv.now.totals (all_zero _ _ g.requires.totals)) (all_zero _ _ g.requires.table)
 
 pub split_net-requires-clause-few : goal.split_net-requires-clause-few
-split_net-requires-clause-few g c =
-    omega (arith, sum_none (λ j. get_or c.args.table.now j 0) (all_zero _ _ c.requires.table) (all_cells c.args.schema.now))
+split_net-requires-clause-few g =
+    omega (arith, sum_none (slice_index g.args.table.now) (all_zero _ _ g.requires.table) (all_cells g.args.schema.now))
 '''}
-
-
-def write_spine(folder, counts):
-    with open(folder / "spine.csv", "w") as file:
-        file.write("unit,level,parent\n")
-        for level, count in enumerate(counts):
-            for i in range(count):
-                parent = f"u{level - 1}.{i * counts[level - 1] // count}" if level else ""
-                file.write(f"u{level}.{i},{LEVELS[level]},{parent}\n")
 
 
 def write_files(folder, counts):
