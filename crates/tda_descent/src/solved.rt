@@ -13,13 +13,14 @@ use tda_guess::guess;
 use tda_io::NoMemory;
 use tda_loss::Loss;
 
-// The prices that a solver begins with.
+// Where a solver begins: with all prices 0, or with a guess from the net alone.
 #[derive(Clone, Copy, Debug, PartialEq, Eq)]
 pub(crate) enum Begin {
     Zero,
     Guess,
 }
 
+// The prices that a solver begins with.
 fn first_prices(alloc: Global, net: &Net, begin: Begin) -> Result<Vec<i128>, NoMemory>
     ensures { IfOk result (λ prices. length prices.items ≡ net.now.nodes) }
 {
