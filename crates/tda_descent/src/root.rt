@@ -20,7 +20,7 @@ ghost use Rattle.tda_descent.specs.Made.{IsMadeOf, IsRootOf};
 use crate::fit::Fit;
 use crate::flows::{flow_counts, flow_shares, root_flow};
 use crate::made::fit_of;
-use crate::solved::solve;
+use crate::solved::{Begin, solve};
 use std::alloc::Global;
 use tda_fitnet::{FitNet, root_net};
 use tda_flow::Solver;
@@ -96,6 +96,6 @@ pub(crate) fn fit_root<S: Solver, F: Fn(i64) -> i128>(
 {
     let fit = root_net(alloc, schema, tree, spine, inv, m)?;
     let mut flow = root_flow(alloc, &fit, schema, spine, inv)?;
-    let prices = solve(alloc, fit.net(), loss, solver, &mut flow)?;
+    let prices = solve(alloc, fit.net(), loss, solver, &mut flow, Begin::Zero)?;
     read_root(alloc, schema, spine, &fit, loss, &flow, prices)
 }

@@ -9,13 +9,24 @@ ghost use Rattle.tda_descent.specs.Solved.{IsSolved};
 
 use std::alloc::Global;
 use tda_flow::{Net, Solver};
+use tda_guess::guess;
 use tda_io::NoMemory;
 use tda_loss::Loss;
 
+// Where a solver begins: with all prices 0, or with a guess from the net alone.
+#[derive(Clone, Copy, Debug, PartialEq, Eq)]
+pub(crate) enum Begin {
+    Zero,
+    Guess,
+}
+
 // The prices that a solver begins with.
-fn first_prices(alloc: Global, net: &Net) -> Result<Vec<i128>, NoMemory>
+fn first_prices(alloc: Global, net: &Net, begin: Begin) -> Result<Vec<i128>, NoMemory>
     ensures { IfOk result (λ prices. length prices.items ≡ net.now.nodes) }
 {
+    if begin == Begin::Guess {
+        return guess(alloc, net);
+    }
     Ok(vec![in alloc; 0; net.nodes() as usize]?)
 }
 
@@ -27,6 +38,7 @@ pub(crate) fn solve<S: Solver, F: Fn(i64) -> i128>(
     loss: &Loss<F>,
     solver: &mut S,
     flow: &mut [u64],
+    begin: Begin,
 ) -> Result<Vec<i128>, NoMemory>
     requires nodes { net.now.nodes ≤ S.most_nodes solver.old }
     requires arcs { arc_count net.now ≤ S.most_arcs solver.old }
@@ -38,7 +50,7 @@ pub(crate) fn solve<S: Solver, F: Fn(i64) -> i128>(
     ensures same_arcs { S.most_arcs solver.new ≡ S.most_arcs solver.old }
     ensures same_curves { (c : Curve) → S.takes_curve solver.new c ≡ S.takes_curve solver.old c }
 {
-    let mut prices = first_prices(alloc, net)?;
+    let mut prices = first_prices(alloc, net, begin)?;
     solver.solve(net, loss, flow, &mut prices);
     Ok(prices)
 }

@@ -24,7 +24,7 @@ ghost use Rattle.tda_descent.specs.Made.{IsMadeOf, IsSplitOf};
 use crate::fit::Fit;
 use crate::flows::{flow_counts, split_flow};
 use crate::made::fit_of;
-use crate::solved::solve;
+use crate::solved::{Begin, solve};
 use std::alloc::Global;
 use tda_fitnet::{FitNet, split_net};
 use tda_flow::Solver;
@@ -100,6 +100,6 @@ pub(crate) fn fit_split<S: Solver, F: Fn(i64) -> i128>(
 {
     let fit = split_net(alloc, schema, tree, spine, inv, m, parent, table)?;
     let mut flow = split_flow(alloc, &fit, schema, spine, inv, parent, table, shares)?;
-    let prices = solve(alloc, fit.net(), loss, solver, &mut flow)?;
+    let prices = solve(alloc, fit.net(), loss, solver, &mut flow, Begin::Guess)?;
     read_split(alloc, schema, spine, &fit, loss, parent, &flow, prices)
 }

@@ -129,8 +129,76 @@ fn least_flow(slope: Slope, arc: Arc, gap: i128, x: u64) -> u64
     x
 }
 
-// Brings arc `i` to its least flow for the prices.
-fn settle_arc(body: &Body, i: usize, flow: &mut [u64], spots: &mut [Spot])
+// What a pass over the arcs strives for, within their least flows: the smallest ones, the greatest ones, or those
+// that even out what the ends have too much and too little.
+#[derive(Clone, Copy, Debug, PartialEq, Eq)]
+pub(crate) enum Aim {
+    Least,
+    Most,
+    Even,
+}
+
+// A flow that is changed by `more`, and 0 where that is below it.
+fn changed(flow: u64, more: i64) -> u64 {
+    let sum = i128::from(flow) + i128::from(more);
+    if sum < 0 || sum > 1 << 30 {
+        return 0;
+    }
+    sum as u64
+}
+
+// The change of a flow that evens out its ends. An arc that costs nothing only fills what its end lacks, any other
+// takes on what its start has too much.
+fn evening(slope: Slope, from: i64, to: i64) -> i64 {
+    if slope.weight > 0 {
+        return from;
+    }
+    if to >= 0 || from <= 0 || to == i64::MIN {
+        return 0;
+    }
+    from.min(-to)
+}
+
+// The flow that a pass strives for.
+fn wanted(aim: Aim, slope: Slope, arc: Arc, had: u64, from: i64, to: i64) -> u64 {
+    match aim {
+        Aim::Least => arc.low,
+        Aim::Most if slope.weight > 0 => arc.high,
+        Aim::Most => had,
+        Aim::Even => changed(had, evening(slope, from, to)),
+    }
+}
+
+// The flow nearest to `x` within the bounds of an arc.
+fn bounded(x: u64, arc: Arc) -> u64
+    requires order { arc.low ≤ arc.high }
+    ensures low { arc.low ≤ result }
+    ensures high { result ≤ arc.high }
+{
+    if x < arc.low {
+        arc.low
+    } else if arc.high < x {
+        arc.high
+    } else {
+        x
+    }
+}
+
+// The flow that a pass strives for, within the bounds of an arc.
+fn aimed(aim: Aim, slope: Slope, arc: Arc, had: u64, spots: &[Spot]) -> u64
+    requires order { arc.low ≤ arc.high }
+    requires from { arc.from < length spots.now }
+    requires to { arc.to < length spots.now }
+    ensures low { arc.low ≤ result }
+    ensures high { result ≤ arc.high }
+{
+    let from = spots[arc.from as usize].excess;
+    let to = spots[arc.to as usize].excess;
+    bounded(wanted(aim, slope, arc, had, from, to), arc)
+}
+
+// Brings arc `i` to a least flow for the prices.
+fn settle_arc(body: &Body, aim: Aim, i: usize, flow: &mut [u64], spots: &mut [Spot])
     requires arc { i < arc_count body.now.net.now }
     requires body { IsBody body.now }
     requires tracked { IsTracked body.now.net.now flow.old spots.old }
@@ -142,7 +210,8 @@ fn settle_arc(body: &Body, i: usize, flow: &mut [u64], spots: &mut [Spot])
 {
     let arc = body.net.arc(i);
     let had = flow[i];
-    let least = least_flow(body.slopes[i], arc, gap_at(arc, spots), had);
+    let near = aimed(aim, body.slopes[i], arc, had, spots);
+    let least = least_flow(body.slopes[i], arc, gap_at(arc, spots), near);
     let back = least < had;
     let turn = Turn { arc: i, back };
     let from = turn.start(body.net);
@@ -158,8 +227,8 @@ fn settle_arc(body: &Body, i: usize, flow: &mut [u64], spots: &mut [Spot])
     );
 }
 
-// Brings all arcs to their least flows for the prices.
-fn settle(body: &Body, flow: &mut [u64], spots: &mut [Spot])
+// Brings all arcs to least flows for the prices.
+fn settle(body: &Body, aim: Aim, flow: &mut [u64], spots: &mut [Spot])
     requires body { IsBody body.now }
     requires tracked { IsTracked body.now.net.now flow.old spots.old }
     requires small { (v : ℕ) → IsWithin (2 ^ 92) (spot_at spots.old v).price }
@@ -168,8 +237,27 @@ fn settle(body: &Body, flow: &mut [u64], spots: &mut [Spot])
     ensures same { AreSame spots.old spots.new }
 {
     for i in 0..body.net.arcs() {
-        settle_arc(body, i, flow, spots);
+        settle_arc(body, aim, i, flow, spots);
     }
+}
+
+// The passes over the arcs before the last one.
+const AIMS: [Aim; 5] = [Aim::Least, Aim::Even, Aim::Most, Aim::Even, Aim::Even];
+
+// Brings all arcs to least flows for the prices, of which those are chosen that leave the nodes little too much and
+// too little.
+fn settle_all(body: &Body, flow: &mut [u64], spots: &mut [Spot])
+    requires body { IsBody body.now }
+    requires tracked { IsTracked body.now.net.now flow.old spots.old }
+    requires small { (v : ℕ) → IsWithin (2 ^ 92) (spot_at spots.old v).price }
+    ensures priced { IsPriced square body.now.net.now 1 flow.new (price_of spots.new) }
+    ensures tracked { IsTracked body.now.net.now flow.new spots.new }
+    ensures same { AreSame spots.old spots.new }
+{
+    for k in 0..AIMS.len() {
+        settle(body, AIMS[k], flow, spots);
+    }
+    settle(body, Aim::Even, flow, spots);
 }
 
 // Gives a node its price.
@@ -238,7 +326,7 @@ fn warm(body: &Body, prices: &[i128], flow: &mut [u64], spots: &mut [Spot]) -> u
     ensures few { result ≤ 31 }
 {
     set_prices(prices, spots);
-    settle(body, flow, spots);
+    settle_all(body, flow, spots);
     phases_for(greatest_excess(spots))
 }
 
