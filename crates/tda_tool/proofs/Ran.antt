@@ -168,11 +168,11 @@ case_due words s c has = due_from words s.holds (Ok (Audits c)) _ (audit_task wo
 -- an audit of what these reads give answers yes, where they give inputs, and texts that are answered yes
 answers_yes : (g : Given) (i : Inputs) (tables prices : List ℕ) (deviation : ℕ) → AreAnsweredYes i tables prices deviation → inputs_from g ≡ Ok i → g 5 ≡ Some tables → g 6 ≡ Some prices
     → IsAnsweredYes g i.spine deviation
-answers_yes g i tables prices deviation yes accepted five six = λ words holds is same.
-    let c = case_over i yes.counts yes.numbers in
-    let task : due_task words holds ≡ Ok (Audits c) = audit_task words (given_by words holds) (Ok c) is (case_read g (given_by words holds) i tables prices deviation yes accepted five six same) in
-    let ends : yes_ending i.spine deviation ≡ audit_ending c = ap (yes_ending i.spine) (sym yes.deviation_is) ∙ ap (λ v. ending_by v c) (sym yes.yes) in
-    (record { task = Audits c; accepted = task; enough = yes.certified }, due_from words holds (Ok (Audits c)) (yes_ending i.spine deviation) task ends (λ d h. h ∙ sym ends))
+answers_yes g i tables prices deviation has accepted five six = λ words holds is same.
+    let c = case_over i has.counts has.numbers in
+    let task : due_task words holds ≡ Ok (Audits c) = audit_task words (given_by words holds) (Ok c) is (case_read g (given_by words holds) i tables prices deviation has accepted five six same) in
+    let ends : yes_ending i.spine deviation ≡ audit_ending c = ap (yes_ending i.spine) (sym has.deviation_is) ∙ ap (λ v. ending_by v c) (sym has.yes) in
+    (record { task = Audits c; accepted = task; enough = has.certified }, due_from words holds (Ok (Audits c)) (yes_ending i.spine deviation) task ends (λ d h. h ∙ sym ends))
 
 -- the report of a condition that fails is due
 no_due : (c : Case) (v : Verdict) → v ≢ Yes → ending_by v c ≡ no_ending c.inputs.schema c.inputs.spine v
@@ -381,7 +381,9 @@ wrote_run words s a old new v has made left = record {
       (paths_for words command.Run has.is)
       (subst (λ files. Leaves files old new) (files_are words _ _ _ a made.tells.outputs made.tells.report) left);
   answered = answers_yes _ (run_inputs v made.measurements) (tables_text v.schema v.spine made.tells.tables) (pricing_text (run_inputs v made.measurements) made.tells.price) _ made.tells.answered
-      (inputs_read words (given_by words s.holds) v made.measurements (state_counts v.spine v.records) _ _ _ has.held made.tells.totals_back made.tells.measured_back) refl refl;
+      (inputs_read words (given_by words s.holds) v made.measurements (state_counts v.spine v.records) (totals_text v.spine (state_counts v.spine v.records))
+      (measurements_text v.schema v.spine made.measurements)
+      (tables_text v.schema v.spine made.tells.tables ∷ pricing_text (run_inputs v made.measurements) made.tells.price ∷ []) has.held made.tells.totals_back made.tells.measured_back) refl refl;
 }
 
 -- the words are one command at most

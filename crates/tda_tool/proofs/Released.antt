@@ -1,5 +1,7 @@
 -- A release over what was measured.
-use Rattle.std.proofs.Common.{◌≡◌, ◌≤◌, ◌∙◌, ◌++◌, ◌∷◌, [], List, ℕ, ℤ, length, codes, sym, ap, subst, None}
+use Rattle.std.proofs.Common.{◌≡◌, ◌≤◌, ◌∙◌, ◌++◌, ◌∷◌, [], List, ℕ, ℤ, length, codes, sym, ap, subst, None, Result, Ok, Err}
+use Rattle.std.specs.Result.{IfOk}
+use Rattle.tda_io.specs.declared.outside.NoMemory.{NoMemory}
 use Rattle.tda_model.specs.Schema.{Schema}
 use Rattle.tda_model.specs.Spine.{Spine}
 use Rattle.tda_model.specs.Release as release
@@ -15,7 +17,12 @@ use Rattle.tda_inputs.specs.Accepted.{inputs_by}
 use Rattle.tda_release.specs.Texts.{AreReadBack, AreTextsOf}
 use Rattle.tda_release.specs.declared.release.Texts.{Texts}
 use Rattle.tda_tool.specs.Ending.{run_ending}
-use Rattle.tda_tool.specs.Answer.{AreOutputs, AreMeasuredFiles, AreMeasuredBack, TellsRun}
+use Rattle.tda_out.specs.Counts.{count_at}
+use Rattle.tda_hist.specs.TrueTable.{state_persons}
+use Rattle.tda_inputs.specs.declared.counted.Counted.{Counted}
+use Rattle.tda_tool.specs.declared.draw.Drawn.{Drawn}
+use Rattle.tda_tool.specs.declared.answer.Cause.TheVariants as cause
+use Rattle.tda_tool.specs.Answer.{AreOutputs, AreMeasuredFiles, AreMeasuredBack, TellsRun, AreDrawnFrom, AnswersBy, AnswersNoise, RunsWith}
 use Rattle.tda_tool.specs.Auditing.{AreAnsweredYes}
 use Rattle.tda_tool.proofs.Answered.{answered_yes, measurements_back, totals_back}
 use Rattle.tda_tool.specs.declared.answer.Output.{Output}
@@ -58,3 +65,11 @@ module _ (s : Schema) (sp : Spine) (f : NumberTable) (totals : List ℕ) (m : Li
             (subst (λ y. AreAnsweredYes made_from texts.tables.items y (total_deviation made_from t.tables)) t.prices_are
             (answered_yes made_from texts _ (subst (λ j. AreReadBack j texts) is back) t.deviation));
       }
+
+-- a release over what was drawn is what `run` answers
+pub runs_with : (c : Counted) (words : List ℕ) (d : Drawn) (r : Result Answer NoMemory) → AreDrawnFrom c words d → IfOk r (λ a. a.cause ≡ cause.Done)
+    → IfOk r (TellsRun c.schema c.spine c.facilities (state_persons c.schema c.spine (count_at c.tables)) d.measurements d.taken) → IfOk r (AnswersNoise RunsWith c words)
+runs_with c words d (Ok a) drawn done tells =
+    subst (λ k. AnswersBy (RunsWith c words a) k c words a) (sym done)
+    (record { measurements = d.measurements; rest = drawn.rest; taken = d.taken; measured = drawn.measured; taken_are = drawn.taken_are; tells = tells })
+runs_with c words d (Err e) drawn done tells = tt
