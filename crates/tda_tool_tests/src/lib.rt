@@ -4,6 +4,8 @@
 #[cfg(test)]
 mod audit_tests;
 #[cfg(test)]
+mod demo_tests;
+#[cfg(test)]
 mod failure_tests;
 #[cfg(test)]
 mod fault_tests;
