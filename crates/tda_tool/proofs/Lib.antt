@@ -9,3 +9,4 @@ pub mod Writes
 pub mod Surveyed
 pub mod Prepared
 mod Worked
+pub mod Demonstrated

@@ -18,15 +18,22 @@ use Rattle.tda_tool.specs.Ending.{demo_ending}
 use Rattle.tda_tool.specs.Measuring.{stop_ending}
 use Rattle.tda_tool.specs.Running.{run_inputs, measured_by}
 
+-- the place of the first word of the noise in the seed's stream, and how many words there are
+unfoldable pub noise_place : ℕ
+noise_place = 2 ^ 40
+
+unfoldable pub noise_budget : ℕ
+noise_budget = 2 ^ 32
+
 -- what is measured: the persons of the demo of a number and a size, its facilities, and as words of the noise those of its seed from
--- place 2^40 on
+-- their place on
 unfoldable pub demo_survey : ℕ → ℕ → Survey
 demo_survey number size = record {
   schema = schema;
   spine = spine size;
   facilities = facility_table size;
   records = records number size;
-  words = stream_words (key_of (seed number)) (2 ^ 40) (2 ^ 32);
+  words = stream_words (key_of (seed number)) noise_place noise_budget;
 }
 
 -- how it ends with these measurements, so many words taken, and these tables

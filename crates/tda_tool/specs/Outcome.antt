@@ -27,7 +27,7 @@ use Rattle.tda_inputs.specs.Accepted.{given_by, failing_at, Case, inputs_from, s
 use Rattle.tda_release.specs.Certified.{IsCertifiedRelease, pricing_text, total_deviation}
 use Rattle.tda_tool.specs.Measuring.{Draws, stop_ending, measured_ending, state_counts, MeasuresSurvey}
 use Rattle.tda_tool.specs.Fitting.{fitted_ending}
-use Rattle.tda_tool.specs.Demonstrating.{demonstrated_ending}
+use Rattle.tda_tool.specs.Demonstrating.{noise_place, noise_budget, demonstrated_ending}
 use Rattle.rand_chacha.specs.ChaCha.{key_of}
 use Rattle.tda_words.specs.Words.{stream_words}
 use Rattle.tda_schema.specs.Read as schema_file
@@ -223,7 +223,7 @@ pub record IsOfDemoFiles (number size : ℕ) (v : Survey) : Type 0 where
   pub facilities : facilities_file.read v.schema v.spine (facilities_text size) ≡ Ok v.facilities
   pub records : records_file.read v.schema v.spine (records_text number size) ≡ Ok v.records
   pub agree : agree_due v.schema v.spine v.facilities (true_count v.spine v.records) ≡ Ok tt
-  pub words : v.words ≡ stream_words (key_of (seed number)) (2 ^ 40) (2 ^ 32)
+  pub words : v.words ≡ stream_words (key_of (seed number)) noise_place noise_budget
 
 -- `demo` wrote five lines and nothing else: of what `run` measures on the demo's files, and of tables that are a release over it, with
 -- prices that certify them, so that an audit says yes.

@@ -18,7 +18,7 @@ use crate::draw::{Drawn, draw};
 use crate::measured::{push_spent, stopped};
 use crate::run::published;
 use std::alloc::Global;
-use tda_demo_laws::{DemoInputs, demo_inputs};
+use tda_demo_laws::{DemoInputs, demo_inputs, demo_is_accepted};
 use tda_inputs::{Counted, Noise};
 use tda_io::NoMemory;
 use tda_places::count;
@@ -34,41 +34,29 @@ pub(crate) struct Demo {
 }
 
 // What is measured: the demo's persons, and the words of its noise.
-fn counted_of(inputs: DemoInputs) -> Counted {
+fn counted_of(inputs: DemoInputs) -> Counted
+    ensures schema { result.schema ≡ inputs.schema }
+    ensures spine { result.spine ≡ inputs.spine }
+    ensures facilities { result.facilities ≡ inputs.facilities }
+    ensures tables { result.tables ≡ inputs.tables }
+    ensures noise { result.noise ≡ Noise.Seed inputs.seed inputs.place inputs.budget }
+{
+    let seed = inputs.seed;
     Counted {
         schema: inputs.schema,
         spine: inputs.spine,
         facilities: inputs.facilities,
         tables: inputs.tables,
         noise: Noise::Seed {
-            seed: inputs.seed,
+            seed,
             place: inputs.place,
             budget: inputs.budget,
         },
     }
 }
 
-// The lines that tell which demo it is, and how many units, persons and places it has.
-fn first_lines(
-    alloc: Global,
-    demo: Demo,
-    persons: usize,
-    schema: &Schema,
-    spine: &Spine,
-) -> Result<Vec<u8>, NoMemory>
-    requires belong { spine.now.depth ≡ length schema.now.levels }
-{
-    let Demo { number, size } = demo;
-    let units = spine.units();
-    let places = count(schema, spine);
-    let lines = format!(in alloc;
-        "demo number={number} size={size}\nunits={units} persons={persons} places={places}\nspent="
-    )?;
-    Ok(lines.into_bytes())
-}
-
-// All five lines: beside those, what is spent and how many words were taken, how many fits were made and their deviation,
-// and that an audit of them says yes.
+// The five lines: which demo it is; how many units, persons and places it has; what is spent, and how many words were
+// taken; how many fits were made, and their deviation; and that an audit of them says yes.
 fn lines(
     alloc: Global,
     demo: Demo,
@@ -81,9 +69,16 @@ fn lines(
     requires belong { spine.now.depth ≡ length schema.now.levels }
     ensures { IfOk result (λ v. v.items ≡ (demo_ending demo.number demo.size persons schema.now spine.now taken deviation).report) }
 {
-    let mut lines = first_lines(alloc, demo, persons, schema, spine)?;
-    push_spent(schema, &mut lines)?;
+    let number = demo.number;
+    let size = demo.size;
+    let units = spine.units();
+    let places = count(schema, spine);
     let fits = spine.parents().len() + 1;
+    let mut lines = format!(in alloc;
+        "demo number={number} size={size}\nunits={units} persons={persons} places={places}\nspent="
+    )?
+    .into_bytes();
+    push_spent(schema, &mut lines)?;
     let rest = format!(in alloc;
         " words={taken}\nfits={fits} deviation={deviation}\naudit yes\n"
     )?;
@@ -132,6 +127,7 @@ pub(crate) fn demonstrated(alloc: Global, demo: Demo) -> Result<Answer, NoMemory
     requires few { demo.size ≤ 64 }
     ensures { IfOk result (AnswersDemo demo.number demo.size) }
 {
+    demo_is_accepted(demo.number, demo.size);
     let inputs = demo_inputs(alloc, demo.number, demo.size)?;
     let persons = inputs.persons;
     let counted = counted_of(inputs);
