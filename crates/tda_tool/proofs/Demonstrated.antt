@@ -1,9 +1,13 @@
 -- What is measured of a demo's inputs is measured of its survey.
-use Rattle.std.proofs.Common.{◌≡◌, ◌∙◌, ◌^◌, ◌≤◌, List, ℕ, ℤ, length, refl, sym, ap, subst, arith, Result, Ok, Err}
+use Rattle.std.proofs.Common.{◌≡◌, ◌∙◌, ◌^◌, ◌≤◌, [], List, ℕ, ℤ, length, refl, sym, ap, subst, arith, Result, Ok, Err}
 use Rattle.std.specs.Result.{IfOk}
 use Rattle.rand_chacha.specs.ChaCha.{key_of}
 use Rattle.tda_model.specs.Schema.{Schema}
 use Rattle.tda_model.specs.Spine.{Spine}
+use Rattle.tda_model.specs.Release as release
+use Rattle.tda_release.specs.Texts.{AreTextsOf}
+use Rattle.tda_release.specs.declared.release.Texts.{Texts}
+use Rattle.tda_tool.specs.Ending.{demo_ending}
 use Rattle.tda_words.specs.Words.{stream_words}
 use Rattle.tda_spine.specs.Judged.{IsWithinLimits}
 use Rattle.tda_invar.specs.KindTable.{NumberTable}
@@ -142,3 +146,19 @@ stopped_answer number size c is files one (Err m) stopped = tt
 -- the noise is one on the survey's places as on those of what was counted
 pub one_noise : (v : Survey) (c : Counted) → IsCounted v c → IsDetermined (IsNoise (variances_of c.schema c.spine)) → IsDetermined (IsNoise (variances_of v.schema v.spine))
 one_noise v c is one = subst (λ sp. IsDetermined (IsNoise (variances_of v.schema sp))) is.spine (subst (λ s. IsDetermined (IsNoise (variances_of s c.spine))) is.schema one)
+
+-- the lines over the inputs that the tables were made from
+abbrev lines_over : ℕ → ℕ → ℕ → ℕ → release.Inputs → ℕ → List ℕ
+lines_over number size persons taken i deviation = (demo_ending number size persons i.schema i.spine taken deviation).report
+
+pub lines_told : (number size persons taken : ℕ) (i made : release.Inputs) → i ≡ made → (texts : Texts) → AreTextsOf i texts → (a : Answer) → a.outputs.items ≡ []
+    → a.report.items ≡ lines_over number size persons taken i texts.deviation → TellsDemo number size persons made.schema made.spine made taken a
+lines_told number size persons taken i made is texts are a outputs report =
+    let t = subst (λ j. AreTextsOf j texts) is are in
+    let line = subst (λ j. a.report.items ≡ lines_over number size persons taken j texts.deviation) is report in
+    record {
+      tables = t.tables;
+      price = t.price;
+      certified = t.certified;
+      alone = record { outputs = outputs; report = line ∙ ap (lines_over number size persons taken made) t.deviation };
+    }

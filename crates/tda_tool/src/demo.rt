@@ -76,12 +76,9 @@ fn lines(
     let fits = spine.parents().len() + 1;
     let mut lines = format!(in alloc;
         "demo number={number} size={size}\nunits={units} persons={persons} places={places}\nspent="
-    )?
-    .into_bytes();
+    )?.into_bytes();
     push_spent(schema, &mut lines)?;
-    let rest = format!(in alloc;
-        " words={taken}\nfits={fits} deviation={deviation}\naudit yes\n"
-    )?;
+    let rest = format!(in alloc; " words={taken}\nfits={fits} deviation={deviation}\naudit yes\n")?;
     lines.extend_from_slice(rest.as_bytes())?;
     Ok(lines)
 }

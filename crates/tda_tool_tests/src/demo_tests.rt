@@ -92,7 +92,8 @@ fn run_and_audit_give_the_numbers_of_the_demo(rt: HostRuntime) -> Result<(), Fai
             written.push(file(rt.alloc(), output.name.as_str(), &output.bytes)?)?;
         }
     }
-    let audit = "audit --schema a --spine b --facilities c --totals t --measurements m --tables x --prices p";
+    let audit =
+        "audit --schema a --spine b --facilities c --totals t --measurements m --tables x --prices p";
     let words = words_of(rt.alloc(), audit)?;
     let mut inbox = MemInbox::new(rt.alloc(), written, vec![in alloc; 0]?);
     let mut outbox = MemOutbox::new(rt.alloc(), vec![in alloc; 0]?);
