@@ -10,3 +10,4 @@ pub mod Surveyed
 pub mod Prepared
 mod Worked
 pub mod Demonstrated
+pub mod DemoWords
