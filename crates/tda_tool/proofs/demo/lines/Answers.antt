@@ -7,7 +7,7 @@ use Rattle.tda_places.specs.Places.{places_of}
 use Rattle.tda_tool.proofs.demo.lines.Goals as goal
 
 regroup : (a b c d e f g h i j end n s u p l m t k v : List ℕ)
-    → ((a ++ (n ++ (b ++ (s ++ ((end ++ c) ++ (u ++ (d ++ (p ++ (e ++ (l ++ (end ++ f)))))))))) ++ m) ++ (g ++ (t ++ ((end ++ h) ++ (k ++ (i ++ (v ++ (end ++ (j ++ end))))))))
+    → ((a ++ (n ++ (b ++ (s ++ ((end ++ c) ++ (u ++ (d ++ (p ++ (e ++ (l ++ (end ++ f))))))))))) ++ m) ++ (g ++ (t ++ ((end ++ h) ++ (k ++ (i ++ (v ++ (end ++ (j ++ end))))))))
     ≡ ((((((((a ++ n) ++ b) ++ s) ++ end) ++ ((((((c ++ u) ++ d) ++ p) ++ e) ++ l) ++ end)) ++ ((((f ++ m) ++ g) ++ t) ++ end)) ++ ((((h ++ k) ++ i) ++ v) ++ end)) ++ (j ++ end))
 regroup a b c d e f g h i j end n s u p l m t k v = simp append_assoc
 
