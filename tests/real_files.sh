@@ -146,7 +146,7 @@ try "tells the run's deviation" 0 - deviations_agree
 awk -F, -v OFS=, 'NR == 2 { $3 += 1 } { print }' "$folder/run_tables.csv" >"$folder/forged.csv"
 try "one person more in the nation" 1 "no sum US 0" audit "$folder/forged.csv" "$folder/run_prices.csv"
 head -n 1 "$folder/run_prices.csv" >"$folder/no_prices.csv"
-try "prices of no fit" 3 "refused prices Missing -" audit "$folder/run_tables.csv" "$folder/no_prices.csv"
+try "prices of no fit" 3 "refused prices Missing" audit "$folder/run_tables.csv" "$folder/no_prices.csv"
 try "missing prices" 4 "read prices" audit "$folder/run_tables.csv" "$folder/none"
 try "the town's release and its audit" 0 "ok audit fits=7" town_without_deviation
 for file in measurements totals ledger; do
