@@ -522,7 +522,10 @@ demo_wrote words (Some s) (Err fault_out.Failed) old new suits left zero is = cc
 demo_wrote words (Some s) (Err fault_out.NoMemory) old new suits left zero is = cc zero
 
 -- the demo reads no file, so that none is refused
-reads_none : (place : ℕ) (name : List ℕ) → slice_get {A = List ℕ} [] place ≡ Some name → ⊥
+abbrev no_names : List (List ℕ)
+no_names = []
+
+reads_none : (place : ℕ) (name : List ℕ) → slice_get no_names place ≡ Some name → ⊥
 reads_none place name is = cc is
 
 demo_refuses : (words : List (List ℕ)) (f : File) → command_of words ≡ Some command.Demo → IsRead words f → ⊥

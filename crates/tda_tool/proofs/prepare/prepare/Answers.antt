@@ -1,4 +1,4 @@
-use Rattle.std.proofs.Common.{rules, ◌≡◌, Some, map, string_bytes}
+use Rattle.std.proofs.Common.{rules, ◌≡◌, Some, None, map, string_bytes}
 use Rattle.tda_command.specs.Words.{command_of}
 use Rattle.tda_command.specs.declared.words.Command.TheVariants.{Demo}
 use Rattle.tda_tool.proofs.Prepared.{demo_done}
@@ -17,4 +17,4 @@ returns-in-Some-Demo-clause-asked g c =
 pub returns-in-Some-Demo-clause-cause : goal.returns-in-Some-Demo-clause-cause
 returns-in-Some-Demo-clause-cause g c =
     let is : command_of (map string_bytes c.args.words.now) ≡ Some Demo = search rules in
-    (demo_done (map string_bytes c.args.words.now) is _ _ c.demo.result c.demo.ensures).cause
+    (demo_done (map string_bytes c.args.words.now) is None _ c.demo.result c.demo.ensures).cause
