@@ -5,7 +5,7 @@ use Rattle.std.specs.Str.{bytes_eq}
 use Rattle.std.specs.Map.{lookup}
 use Rattle.tda_io.specs.Texts.{int_of}
 use Rattle.tda_command.specs.declared.words.Command.{Command}
-use Rattle.tda_command.specs.declared.words.Command.TheVariants.{Fit, Measure, Run, Audit}
+use Rattle.tda_command.specs.declared.words.Command.TheVariants.{Fit, Measure, Run, Audit, Demo}
 use Rattle.tda_command.specs.declared.words.Number.{Number}
 use Rattle.tda_command.specs.declared.words.Number.TheVariants as number
 use Rattle.tda_command.specs.declared.words.Source.{Source}
@@ -39,11 +39,15 @@ times_in pairs name = count_by (λ p. bytes_eq (dashed name) p.0) pairs
 abbrev pub number_name : Number → List ℕ
 number_name number.Place = codes "place"
 number_name number.Budget = codes "budget"
+number_name number.Demo = codes "number"
+number_name number.Size = codes "size"
 
 -- the least and the most that it may be
 abbrev pub limits_of : Number → ℕ × ℕ
 limits_of number.Place = (0, 2 ^ 64 - 1)
 limits_of number.Budget = (0, 2 ^ 32)
+limits_of number.Demo = (0, 2 ^ 32 - 1)
+limits_of number.Size = (1, 64)
 
 -- the form of a command: its word; the names of the files that it reads, in the order of judging; those of the files that it
 -- writes, in the order of writing; and its numbers
@@ -98,12 +102,22 @@ audit_form = record {
   numbers = [];
 }
 
+-- no file: all is made from the number and the size
+abbrev pub demo_form : Form
+demo_form = record {
+  word = codes "demo";
+  reads = [];
+  writes = [];
+  numbers = number.Demo ∷ number.Size ∷ [];
+}
+
 -- the form of a command, where the words of the noise come from there
 abbrev pub form_of : Source → Command → Form
 form_of from Fit = fit_form
 form_of from Measure = measure_form from
 form_of from Run = run_form from
 form_of from Audit = audit_form
+form_of from Demo = demo_form
 
 -- A seed that stands is where the words of the noise come from, and else it is a file of words. Since no other name may stand, the
 -- names of exactly one of the two choices stand.
@@ -184,7 +198,7 @@ abbrev pub source_of : List (List ℕ) → Source
 source_of words = source_in (pairs_after words)
 
 abbrev pub commands : List Command
-commands = Fit ∷ Measure ∷ Run ∷ Audit ∷ []
+commands = Fit ∷ Measure ∷ Run ∷ Audit ∷ Demo ∷ []
 
 -- the command that the words are
 abbrev pub command_of : List (List ℕ) → Option Command

@@ -17,6 +17,8 @@ pub enum Command {
     Run,
     /// A verdict on tables and prices.
     Audit,
+    /// A run and an audit of files that are made from a number and a size.
+    Demo,
 }
 
 /// Where the words of the noise come from.
@@ -35,6 +37,10 @@ pub enum Number {
     Place,
     /// How many words of a seed there are.
     Budget,
+    /// What the persons of a demo are drawn by.
+    Demo,
+    /// How many blocks each tract of a demo has.
+    Size,
 }
 
 impl Number {
@@ -47,6 +53,8 @@ impl Number {
         match self {
             Number::Place => "place",
             Number::Budget => "budget",
+            Number::Demo => "number",
+            Number::Size => "size",
         }
     }
 
@@ -57,6 +65,8 @@ impl Number {
         match self {
             Number::Place => (0, u64::MAX),
             Number::Budget => (0, 1 << 32),
+            Number::Demo => (0, (1 << 32) - 1),
+            Number::Size => (1, 64),
         }
     }
 }
@@ -75,6 +85,7 @@ impl Command {
             Command::Fit => "fit",
             Command::Run => "run",
             Command::Audit => "audit",
+            Command::Demo => "demo",
         }
     }
 
@@ -99,6 +110,7 @@ impl Command {
                 "tables",
                 "prices",
             ],
+            (Command::Demo, _) => &[],
         }
     }
 
@@ -110,7 +122,7 @@ impl Command {
             Command::Measure => &["measurements", "totals", "ledger"],
             Command::Fit => &["tables", "prices"],
             Command::Run => &["measurements", "totals", "ledger", "tables", "prices"],
-            Command::Audit => &[],
+            Command::Audit | Command::Demo => &[],
         }
     }
 
@@ -122,6 +134,7 @@ impl Command {
             (Command::Measure | Command::Run, Source::Seed) => &[Number::Place, Number::Budget],
             (Command::Measure | Command::Run, Source::Words) | (Command::Fit | Command::Audit, _) =>
                 &[],
+            (Command::Demo, _) => &[Number::Demo, Number::Size],
         }
     }
 }
@@ -301,8 +314,9 @@ fn has_form(command: Command, words: &[String]) -> bool
 
 /// The command that the words are: its word, and then each of its names with a value, in any order. Where the words of
 /// noise come from a file, its name stands, and else a seed's with a place and a budget. The values are names of files, of
-/// which none is empty, and a written one is neither `-` nor equal to another one; and numbers in canonical decimals, a
-/// place of a u64 and a budget of at most 2^32. None where the words are no command.
+/// which none is empty, and a written one is neither `-` nor equal to another one; and numbers in canonical decimals: a
+/// place of a u64, a budget of at most 2^32, a demo's number below 2^32 and its size from 1 to 64. None exactly when the
+/// words are no command.
 pub fn judge(words: &[String]) -> Option<Command>
     ensures { result ≡ command_of (map string_bytes words.now) }
 {
@@ -314,6 +328,8 @@ pub fn judge(words: &[String]) -> Option<Command>
         Some(Command::Run)
     } else if has_form(Command::Audit, words) {
         Some(Command::Audit)
+    } else if has_form(Command::Demo, words) {
+        Some(Command::Demo)
     } else {
         None
     }
@@ -329,7 +345,7 @@ fn pairs_after(words: &[String]) -> &[String]
     }
 }
 
-/// The value of the pair that has this name, which is given without its two dashes. None exactly where no pair has it.
+/// The value of the pair that has this name, which is given without its two dashes. None exactly when no pair has it.
 pub fn value_of<'a>(words: &'a [String], name: &str) -> Option<&'a str>
     ensures { option_map (λ v. v.now) result ≡ value_of (map string_bytes words.now) name.now }
 {

@@ -48,8 +48,8 @@ module _ (number size : ℕ) (some : 1 ≤ size) (few : size ≤ 64) (f : Files)
       let es : schema ≡ d.schema = same_Ok schema d.schema (schema_file.read f.schema) a.schema_read read.schema_read in
       let esp : spine size ≡ d.spine =
       same_Ok (spine size) d.spine (spine_file.read d.schema f.spine) (ap (λ x. spine_file.read x f.spine) (sym es) ∙ a.spine_read) read.spine_read in
-      let ef : facility_table size ≡ d.invariants.facilities =
-      same_Ok (facility_table size) d.invariants.facilities (facilities_file.read d.schema d.spine f.facilities)
+      let ef : facility_table size ≡ d.facilities =
+      same_Ok (facility_table size) d.facilities (facilities_file.read d.schema d.spine f.facilities)
       (ap (λ x. facilities_file.read x d.spine f.facilities) (sym es) ∙ ap (λ x. facilities_file.read schema x f.facilities) (sym esp) ∙ a.facilities_read) read.facilities_read in
       let er : records number size ≡ read.tables.records =
       same_Ok (records number size) read.tables.records (records_file.read d.schema d.spine f.records)
@@ -59,9 +59,10 @@ module _ (number size : ℕ) (some : 1 ≤ size) (few : size ≤ 64) (f : Files)
         spine = sym esp;
         facilities = sym ef;
         tables = subst (λ rs. AreTrueTables d.schema d.spine rs d.tables) (sym er) read.tables.are_true;
-        totals = read.totals;
-        belong = read.belong;
-        joined = read.joined;
+        persons = read.persons ∙ ap length (sym er);
+        limits = read.limits;
+        table = read.table;
+        enough = read.enough;
         seed = read.seed ∙ own_seed;
         place = read.place ∙ own_place;
         budget = read.budget ∙ own_budget;

@@ -1,35 +1,38 @@
 // What measuring and fitting a demo start from.
-ghost use Rattle.std.specs.Prelude.{◌≡◌, ◌≤◌, ◌<◌, ◌^◌, length, sum, IfOk, Ok, None};
-ghost use Rattle.tda_model.specs.Bounds.{persons_limit};
+ghost use Rattle.std.specs.Prelude.{◌≡◌, ◌≤◌, ◌<◌, ◌^◌, length, IfOk, Ok, None};
 ghost use Rattle.tda_schema.specs.Read as schema_file;
 ghost use Rattle.tda_spine.specs.Judged as spine_file;
+ghost use Rattle.tda_spine.specs.Judged.{IsWithinLimits};
 ghost use Rattle.tda_invar.specs.Facilities as facilities_file;
 ghost use Rattle.tda_invar.specs.Facilities.{IsTableOf};
-ghost use Rattle.tda_invar.specs.Known.{known, join_fault, IsJoined};
+ghost use Rattle.tda_invar.specs.Known.{known, join_fault};
+ghost use Rattle.tda_records.specs.Records.{AreRecordsOf};
 ghost use Rattle.tda_out.specs.Counts.{count_at, AreCountsOf};
 ghost use Rattle.tda_hist.specs.Agreement.{agree_due};
 ghost use Rattle.tda_hist.specs.TrueTable.{state_persons, BlocksAddUp};
-ghost use Rattle.tda_demo_laws.specs.Inputs.{AreTablesOf, AreAcceptable, AreReadFrom, AreInputs};
+ghost use Rattle.tda_demo_laws.specs.Inputs.{AreTrueTables, AreTablesOf, AreAcceptable, AreReadFrom, AreInputs};
 
 use crate::reading::{accepted_facilities, accepted_records, accepted_schema, accepted_spine};
 use std::alloc::Global;
 use std::marker::Model;
 use tda_demo::{DemoFiles, demo_files};
-use tda_hist::{agree, count, state_totals};
-use tda_invar::{Facilities, Invariants, JoinFault, join};
+use tda_hist::{agree, count};
+use tda_invar::Facilities;
 use tda_io::NoMemory;
 use tda_out::Tables;
+use tda_records::Records;
 use tda_schema::Schema;
 use tda_spine::Spine;
 
-/// A demo's schema and spine, the true table of each unit, what is published exactly, and the words of the noise: their
-/// key, the place of the first and how many there are.
+/// A demo's schema, spine and facilities, how many persons there are, the true table of each unit, and the words of the
+/// noise: their key, the place of the first and how many there are.
 #[derive(Drop)]
 pub struct DemoInputs {
     pub schema: Schema,
     pub spine: Spine,
+    pub facilities: Facilities,
+    pub persons: usize,
     pub tables: Tables,
-    pub invariants: Invariants,
     pub seed: [u8; 32],
     pub place: u64,
     pub budget: u64,
@@ -40,24 +43,20 @@ impl Model for DemoInputs {
 
     ghost Value = { Inputs };
 
-    ghost view = { λ d. record { schema = d.schema; spine = d.spine; tables = d.tables; invariants = d.invariants; seed = d.seed; place = d.place; budget = d.budget } };
+    ghost view = { λ d. record { schema = d.schema; spine = d.spine; facilities = d.facilities; persons = d.persons; tables = d.tables; seed = d.seed; place = d.place; budget = d.budget } };
 }
 
-// The true tables of the records.
-fn read_tables(
+// The true tables of records.
+fn true_tables(
     alloc: Global,
-    files: &DemoFiles,
     schema: &Schema,
     spine: &Spine,
+    records: &Records,
 ) -> Result<Tables, NoMemory>
-    requires acceptable { AreAcceptable files.now }
-    requires schema { schema_file.read files.now.schema ≡ Ok schema.now }
-    requires spine { spine_file.read schema.now files.now.spine ≡ Ok spine.now }
-    requires belong { spine.now.depth ≡ length schema.now.levels }
-    ensures { IfOk result (AreTablesOf schema.now spine.now files.now.records) }
+    requires { AreRecordsOf schema.now spine.now records.now }
+    ensures { IfOk result (AreTrueTables schema.now spine.now records.now) }
 {
-    let records = accepted_records(alloc, schema, spine, &files.records)?;
-    count(alloc, schema, spine, &records)
+    count(alloc, schema, spine, records)
 }
 
 // Judges tables that agree with the facilities.
@@ -75,52 +74,26 @@ fn judge(schema: &Schema, spine: &Spine, tables: &Tables, facilities: &Facilitie
     }
 }
 
-// Joins facilities with the states' persons, where the tables agree with the facilities.
-fn joined(
-    alloc: Global,
-    schema: &Schema,
-    spine: &Spine,
-    tables: &Tables,
-    facilities: Facilities,
-) -> Result<Invariants, NoMemory>
-    requires belong { spine.now.depth ≡ length schema.now.levels }
-    requires tables { AreCountsOf schema.now spine.now tables.now }
-    requires blocks { BlocksAddUp schema.now spine.now (count_at tables.now) }
-    requires few { sum (state_persons schema.now spine.now (count_at tables.now)) ≤ persons_limit }
-    requires facilities { IsTableOf schema.now spine.now facilities }
-    requires agree { agree_due schema.now spine.now facilities (count_at tables.now) ≡ Ok tt }
-    ensures facilities { IfOk result (λ inv. inv.facilities ≡ facilities) }
-    ensures totals { IfOk result (λ inv. inv.totals ≡ state_persons schema.now spine.now (count_at tables.now)) }
-    ensures joined { IfOk result (IsJoined schema.now spine.now) }
-{
-    judge(schema, spine, tables, &facilities);
-    let totals = state_totals(alloc, schema, spine, tables)?;
-    match join(alloc, schema, spine, facilities, totals) {
-        Ok(invariants) => Ok(invariants),
-        Err(JoinFault::NoMemory) => Err(NoMemory),
-        Err(_) => unreachable!(),
-    }
-}
-
-// What is published exactly of files that agree: the facilities, and the persons of the states.
-fn read_invariants(
+// The facilities of files whose records agree with them.
+fn read_facilities(
     alloc: Global,
     files: &DemoFiles,
     schema: &Schema,
     spine: &Spine,
     tables: &Tables,
-) -> Result<Invariants, NoMemory>
+) -> Result<Facilities, NoMemory>
     requires acceptable { AreAcceptable files.now }
     requires schema { schema_file.read files.now.schema ≡ Ok schema.now }
     requires spine { spine_file.read schema.now files.now.spine ≡ Ok spine.now }
     requires belong { spine.now.depth ≡ length schema.now.levels }
     requires tables { AreTablesOf schema.now spine.now files.now.records tables.now }
-    ensures read { IfOk result (λ inv. facilities_file.read schema.now spine.now files.now.facilities ≡ Ok inv.facilities) }
-    ensures totals { IfOk result (λ inv. inv.totals ≡ state_persons schema.now spine.now (count_at tables.now)) }
-    ensures joined { IfOk result (IsJoined schema.now spine.now) }
+    ensures read { IfOk result (λ f. facilities_file.read schema.now spine.now files.now.facilities ≡ Ok f) }
+    ensures table { IfOk result (IsTableOf schema.now spine.now) }
+    ensures enough { IfOk result (λ f. join_fault schema.now spine.now (known spine.now f (state_persons schema.now spine.now (count_at tables.now))) ≡ None) }
 {
     let facilities = accepted_facilities(alloc, schema, spine, &files.facilities)?;
-    joined(alloc, schema, spine, tables, facilities)
+    judge(schema, spine, tables, &facilities);
+    Ok(facilities)
 }
 
 // What the readers give of the records and the facilities, beside the schema and the spine.
@@ -133,16 +106,18 @@ fn read_beside(
     requires acceptable { AreAcceptable files.now }
     requires schema { schema_file.read files.now.schema ≡ Ok schema }
     requires spine { spine_file.read schema files.now.spine ≡ Ok spine }
-    requires belong { spine.depth ≡ length schema.levels }
+    requires limits { IsWithinLimits schema spine }
     ensures { IfOk result (AreReadFrom files.now) }
 {
-    let tables = read_tables(alloc, files, &schema, &spine)?;
-    let invariants = read_invariants(alloc, files, &schema, &spine, &tables)?;
+    let records = accepted_records(alloc, &schema, &spine, &files.records)?;
+    let tables = true_tables(alloc, &schema, &spine, &records)?;
+    let facilities = read_facilities(alloc, files, &schema, &spine, &tables)?;
     Ok(DemoInputs {
         schema,
         spine,
+        facilities,
+        persons: records.len(),
         tables,
-        invariants,
         seed: files.seed,
         place: files.place,
         budget: files.budget,
@@ -159,9 +134,9 @@ fn read_files(alloc: Global, files: &DemoFiles) -> Result<DemoInputs, NoMemory>
     read_beside(alloc, files, schema, spine)
 }
 
-/// What measuring, fitting and the audit of the demo of a number, below 2^32, and a size, from 1 to 64, start from. The
-/// files are made and read, and the records are counted: the readers accept the files, the records agree with the
-/// facilities, and no state is short of persons, so that nothing but want of memory is an error.
+/// What measuring and fitting the demo of a number, below 2^32, and a size, from 1 to 64, start from. The files are made
+/// and read, and the records are counted: the readers accept the files, the records agree with the facilities, and no
+/// state is short of persons, so that nothing but want of memory is an error.
 pub fn demo_inputs(alloc: Global, number: u64, size: u32) -> Result<DemoInputs, NoMemory>
     requires number { number < 2 ^ 32 }
     requires some { 1 ≤ size }

@@ -2,6 +2,7 @@
 ghost use Rattle.std.specs.Prelude.{◌≡◌, ◌≤◌, ◌^◌, length, IfOk, IsOk, Ok};
 ghost use Rattle.tda_schema.specs.Read as schema;
 ghost use Rattle.tda_spine.specs.Judged as spine;
+ghost use Rattle.tda_spine.specs.Judged.{IsWithinLimits};
 ghost use Rattle.tda_spine.specs.Sound.{IsSound};
 ghost use Rattle.tda_invar.specs.Facilities as facilities;
 ghost use Rattle.tda_invar.specs.Facilities.{IsTableOf};
@@ -37,7 +38,7 @@ pub(crate) fn accepted_spine(
     requires accepted { IsOk (spine.read schema.now bytes.now) }
     requires limit { length bytes.now ≤ 2 ^ 28 }
     ensures value { IfOk result (λ sp. spine.read schema.now bytes.now ≡ Ok sp) }
-    ensures belong { IfOk result (λ sp. sp.depth ≡ length schema.now.levels) }
+    ensures limits { IfOk result (IsWithinLimits schema.now) }
 {
     match read_spine(alloc, schema, bytes) {
         Ok(spine) => Ok(spine),

@@ -1,5 +1,5 @@
 -- An audit of what `fit` or `run` read and wrote has a case that answers yes.
-use Rattle.std.proofs.Common.{◌≡◌, ◌∙◌, ◌≤◌, ◌<◌, ◌-◌, ◌^◌, List, [], ◌∷◌, ℕ, ℤ, codes, length, nat_lt, refl, sym, ap, subst, arith, if◌then◌else◌, inl, inr, Option, Some, None, Result, Ok, Err}
+use Rattle.std.proofs.Common.{◌≡◌, ◌∙◌, ◌≤◌, ◌<◌, ◌-◌, List, ◌∷◌, ℕ, ℤ, codes, length, nat_lt, refl, sym, ap, arith, if◌then◌else◌, inl, inr, Some, None, Result, Ok, Err}
 use Rattle.std.proofs.lemmas.Bool.{cases_Bool, ltb-true}
 use Rattle.tda_io.specs.Due.{◌>>=◌}
 use Rattle.tda_model.specs.Release.{Inputs}
@@ -8,19 +8,17 @@ use Rattle.tda_model.specs.Spine.{Spine}
 use Rattle.tda_model.specs.Sizes.{place_count, places_limit}
 use Rattle.tda_invar.specs.KindTable.{NumberTable}
 use Rattle.tda_invar.specs.Known.{known, join_fault}
-use Rattle.tda_out.specs.Counts.{count_at}
 use Rattle.tda_release.specs.Texts.{AreReadBack}
 use Rattle.tda_release.specs.declared.release.Texts.{Texts}
-use Rattle.tda_release.specs.Certified.{total_deviation}
 use Rattle.tda_refusal.specs.Refusal as fault
 use Rattle.tda_prices.specs.TablesRead as tables
 use Rattle.tda_prices.specs.PricesText as prices
 use Rattle.tda_places.specs.Measurements as measurements
 use Rattle.tda_invar.specs.Totals as totals_file
-use Rattle.tda_inputs.specs.Ending.{Ending, file_limit, written_limit, or_refused, judged_within}
+use Rattle.tda_inputs.specs.Ending.{file_limit, written_limit, or_refused, judged_within}
 use Rattle.tda_command.specs.Words.{source_of}
 use Rattle.tda_inputs.specs.Survey.{Survey, noise_from}
-use Rattle.tda_inputs.specs.Accepted.{Given, Case, base_from, totals_from, measurements_from, inputs_from, survey_from, records_from, tables_from, prices_from, case_from}
+use Rattle.tda_inputs.specs.Accepted.{Given, base_from, totals_from, measurements_from, inputs_from, survey_from, records_from, tables_from, prices_from, case_from}
 use Rattle.tda_inputs.proofs.Gathered.{inputs_with, after_base, after_totals}
 use Rattle.tda_inputs.proofs.Cases.{after_inputs, after_tables}
 use Rattle.tda_invar.specs.Totals.{totals_text}

@@ -30,8 +30,23 @@ source_at : (from : Source) → slice_get (survey_files from) (place_of_file (so
 source_at source.Words = refl
 source_at source.Seed = refl
 
--- what is measured is read by each command that draws
-pub survey_reads : (words : List (List ℕ)) (c : Command) → Draws c → command_of words ≡ Some c → ReadsSurvey words
+-- the commands that draw noise on what they read
+abbrev pub DrawsOnFiles : Command → Type 0
+DrawsOnFiles command.Measure = Unit {0}
+DrawsOnFiles command.Run = Unit {0}
+DrawsOnFiles command.Fit = ⊥
+DrawsOnFiles command.Audit = ⊥
+DrawsOnFiles command.Demo = ⊥
+
+pub draws_noise : (c : Command) → DrawsOnFiles c → Draws c
+draws_noise command.Measure draws = tt
+draws_noise command.Run draws = tt
+draws_noise command.Fit draws = absurd draws
+draws_noise command.Audit draws = absurd draws
+draws_noise command.Demo draws = absurd draws
+
+-- what is measured is read by each of them
+pub survey_reads : (words : List (List ℕ)) (c : Command) → DrawsOnFiles c → command_of words ≡ Some c → ReadsSurvey words
 survey_reads words command.Measure draws is = record {
   schema = reads_at words file.Schema command.Measure is refl;
   spine = reads_at words file.Spine command.Measure is refl;
@@ -48,6 +63,7 @@ survey_reads words command.Run draws is = record {
 }
 survey_reads words command.Fit draws is = absurd draws
 survey_reads words command.Audit draws is = absurd draws
+survey_reads words command.Demo draws is = absurd draws
 
 -- `audit` reads those of its case
 pub case_reads : (words : List (List ℕ)) → command_of words ≡ Some command.Audit → ReadsCase words

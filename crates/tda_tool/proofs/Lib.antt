@@ -10,3 +10,5 @@ pub mod Writes
 pub mod Surveyed
 pub mod Prepared
 mod Worked
+pub mod Demonstrated
+pub mod DemoWords

@@ -1,21 +1,20 @@
 -- What was gathered, or what stopped the gathering, tells what is to be answered.
-use Rattle.std.proofs.Common.{◌≡◌, ◌∙◌, List, ℕ, take, refl, sym, ap, subst, arith, Option, Some, None, IfSome, option_map, Result, Ok, Err}
+use Rattle.std.proofs.Common.{◌≡◌, ◌∙◌, List, [], ℕ, take, refl, sym, ap, subst, arith, Option, Some, None, IfSome, option_map, Result, Ok, Err}
 use Rattle.std.specs.Result.{IfOk}
 use Rattle.tda_io.specs.Outside.{Shelf}
 use Rattle.tda_io.specs.declared.outside.NoMemory.{NoMemory}
 use Rattle.tda_measure.specs.Noise.{variances_of, IsNoise, IsDetermined}
 use Rattle.tda_model.specs.Release as release
 use Rattle.tda_inputs.specs.declared.inputs.Inputs.{Inputs}
-use Rattle.tda_tool.specs.Measuring.{Draws}
 use Rattle.tda_inputs.specs.Survey.{Survey}
-use Rattle.tda_command.specs.Words.{command_of, form_in, reads_of, pairs_after, values_in}
+use Rattle.tda_command.specs.Words.{command_of, number_of, form_in, reads_of, pairs_after, values_in}
 use Rattle.tda_inputs.specs.Ending.{Ending}
 use Rattle.tda_inputs.specs.Accepted.{Given, given_by, failing_at, inputs_from, survey_from, Case, case_from}
-use Rattle.tda_tool.specs.Due.{task_by, due_task}
+use Rattle.tda_tool.specs.Due.{survey_of, task_by, due_task}
 use Rattle.tda_inputs.specs.Asked.{AsksPrefix, asks_all}
 use Rattle.tda_inputs.specs.Files.{place_of_file}
 use Rattle.tda_inputs.specs.Reading.{Gathers, AsksFiles, CountsRead, GathersInputs, GathersCase, Surveys, IsCounted, noise_words}
-use Rattle.tda_tool.specs.Answer.{Suits, SuitsBy, AnswersStop, AnswersBy, AnswersNoise, AsksBy, AsksPrepared, CountsBy, CountsPrepared, IsFitted, IsDone, HasSurvey, HasCase, AuditsBy, IsAudit, MeasuresWith, RunsWith, StopsWith, StopsAs}
+use Rattle.tda_tool.specs.Answer.{Suits, SuitsBy, AnswersStop, AnswersBy, AnswersNoise, AsksBy, AsksPrepared, CountsBy, CountsPrepared, IsFitted, IsDone, HasSurvey, HasCase, AuditsBy, IsAudit, MeasuresWith, RunsWith, StopsWith, StopsAs, AnswersDemo, AnswersDemoBy}
 use Rattle.tda_command.specs.declared.words.Command.{Command}
 use Rattle.tda_command.specs.declared.words.Command.TheVariants as command
 use Rattle.tda_inputs.specs.declared.reading.Stop.{Stop}
@@ -26,7 +25,12 @@ use Rattle.tda_tool.specs.declared.answer.Answer.{Answer}
 use Rattle.tda_tool.specs.declared.answer.Cause.{Cause}
 use Rattle.tda_tool.specs.declared.answer.Cause.TheVariants as cause
 use Rattle.tda_inputs.proofs.Asked.{asks_whole}
-use Rattle.tda_tool.proofs.Ran.{fit_task, draw_task, audit_task, asks_up_to}
+use Rattle.tda_inputs.proofs.Asked.{asks_no_name}
+use Rattle.tda_command.specs.declared.words.Number.TheVariants as number
+use Rattle.tda_tool.specs.Outcome.{IsOfDemoFiles}
+use Rattle.tda_tool.specs.Demonstrating.{demo_survey}
+use Rattle.tda_tool.proofs.CommandFiles.{DrawsOnFiles, draws_noise}
+use Rattle.tda_tool.proofs.Ran.{fit_task, draw_task, audit_task, asks_up_to, asks_nothing}
 use Rattle.tda_tool.proofs.Surveyed.{measures, runs}
 
 -- what was gathered is what the shelf's files come to
@@ -106,11 +110,12 @@ paths_read words c is = ap (λ o. values_in (pairs_after words) (form_in words o
 five_files : (words : List (List ℕ)) → command_of words ≡ Some command.Fit → take 5 (reads_of words) ≡ reads_of words
 five_files words is = subst (λ paths. take 5 paths ≡ paths) (sym (paths_read words command.Fit is)) refl
 
-five_read : (c : Command) → Draws c → (words : List (List ℕ)) → command_of words ≡ Some c → take 5 (reads_of words) ≡ reads_of words
+five_read : (c : Command) → DrawsOnFiles c → (words : List (List ℕ)) → command_of words ≡ Some c → take 5 (reads_of words) ≡ reads_of words
 five_read command.Measure draws words is = subst (λ paths. take 5 paths ≡ paths) (sym (paths_read words command.Measure is)) refl
 five_read command.Run draws words is = subst (λ paths. take 5 paths ≡ paths) (sym (paths_read words command.Run is)) refl
 five_read command.Fit draws words is = absurd draws
 five_read command.Audit draws words is = absurd draws
+five_read command.Demo draws words is = absurd draws
 
 seven_files : (words : List (List ℕ)) → command_of words ≡ Some command.Audit → take 7 (reads_of words) ≡ reads_of words
 seven_files words is = subst (λ paths. take 7 paths ≡ paths) (sym (paths_read words command.Audit is)) refl
@@ -202,21 +207,34 @@ module _ (words : List (List ℕ)) (is : command_of words ≡ Some command.Audit
 
 -- ---- `measure` and `run`
 
-draw_tasks : (c : Command) → Draws c → (words : List (List ℕ)) → command_of words ≡ Some c → (given : Given) (e : Ending) → survey_from words given ≡ Err e → task_by words given ≡ Err e
-draw_tasks c draws words is given e stops = draw_task c draws words given (Err e) is stops
+-- the survey of a command that reads it
+held_as : (c : Command) → DrawsOnFiles c → (words : List (List ℕ)) (given : Given) (r : Result Survey Ending) → survey_from words given ≡ r → survey_of c words given ≡ r
+held_as command.Measure draws words given r held = held
+held_as command.Run draws words given r held = held
+held_as command.Fit draws words given r held = absurd draws
+held_as command.Audit draws words given r held = absurd draws
+held_as command.Demo draws words given r held = absurd draws
 
-pub draw_stopped : (c : Command) → Draws c → (words : List (List ℕ)) → command_of words ≡ Some c → (old new : Option Shelf) (before now : ℕ) (e : Stop) (r : Result Answer NoMemory)
+draw_tasks : (c : Command) → DrawsOnFiles c → (words : List (List ℕ)) → command_of words ≡ Some c → (given : Given) (e : Ending) → survey_from words given ≡ Err e → task_by words given ≡ Err e
+draw_tasks c draws words is given e stops = draw_task c (draws_noise c draws) words given (Err e) is (held_as c draws words given (Err e) stops)
+
+pub draw_stopped : (c : Command) → DrawsOnFiles c → (words : List (List ℕ)) → command_of words ≡ Some c → (old new : Option Shelf) (before now : ℕ) (e : Stop) (r : Result Answer NoMemory)
     → Surveys words old (Err e) → AsksFiles {X = Counted} words 5 old new (Err e) → CountsRead {T = Counted} before now (Err e) → IfOk r (AnswersStop e) → IsPrepared words old new before now r
 draw_stopped c draws words is old new before now (stop.Refused f) r gives asked count answers = stopped_ok Survey words 5 (survey_from words) (draw_tasks c draws words is) old new before now (stop.Refused f) r gives asked count answers
 draw_stopped c draws words is old new before now (stop.Read f) r gives asked count answers = stopped_ok Survey words 5 (survey_from words) (draw_tasks c draws words is) old new before now (stop.Read f) r gives asked count answers
 draw_stopped c draws words is old new before now stop.NoMemory r gives asked count answers = stopped_ok Survey words 5 (survey_from words) (draw_tasks c draws words is) old new before now stop.NoMemory r gives asked count answers
 
-module _ (d : Command) (draws : Draws d) (words : List (List ℕ)) (is : command_of words ≡ Some d) (shelf : Option Shelf) (v : Survey) (c : Counted) (counted : IsCounted v c) (gives : Gathers words 5 (survey_from words) shelf (Ok v))
+held_in : (c : Command) → DrawsOnFiles c → (words : List (List ℕ)) (shelf : Option Shelf) (v : Survey) → IfSome shelf (λ s. survey_from words (given_by words s.holds) ≡ Ok v)
+    → IfSome shelf (λ s. survey_of c words (given_by words s.holds) ≡ Ok v)
+held_in c draws words None v held = tt
+held_in c draws words (Some s) v held = held_as c draws words (given_by words s.holds) (Ok v) held
+
+module _ (d : Command) (draws : DrawsOnFiles d) (words : List (List ℕ)) (is : command_of words ≡ Some d) (shelf : Option Shelf) (v : Survey) (c : Counted) (counted : IsCounted v c) (gives : Gathers words 5 (survey_from words) shelf (Ok v))
     (made : Answer → Type 0) where
   survey_is : IsDetermined (IsNoise (variances_of c.schema c.spine)) → HasSurvey d words shelf v
   survey_is one = record {
     is = is;
-    held = gathered words 5 (survey_from words) shelf v gives;
+    held = held_in d draws words shelf v (gathered words 5 (survey_from words) shelf v gives);
     one = subst (λ sp. IsDetermined (IsNoise (variances_of v.schema sp))) counted.spine (subst (λ s. IsDetermined (IsNoise (variances_of s c.spine))) counted.schema one);
   }
 
@@ -227,7 +245,7 @@ module _ (d : Command) (draws : Draws d) (words : List (List ℕ)) (is : command
       (subst (λ s. StopsWith s c.spine (noise_words c.noise) status a) counted.schema stops))
 
   stops_as : (status : ℕ) (a : Answer) → IsDetermined (IsNoise (variances_of c.schema c.spine)) → StopsWith c.schema c.spine (noise_words c.noise) status a → StopsAs status words shelf a
-  stops_as status a one stops = record { command = d; draws = draws; survey = v; has = survey_is one; stops = stops_same status a stops }
+  stops_as status a one stops = record { command = d; draws = draws_noise d draws; survey = v; has = survey_is one; stops = stops_same status a stops }
 
   noise_suits : (k : Cause) (a : Answer) → IsDetermined (IsNoise (variances_of c.schema c.spine)) → (made a → IsDone d words shelf a) → AnswersBy (made a) k c (noise_words c.noise) a → SuitsBy k words shelf a
   noise_suits cause.Done a one done answers = (d, done answers)
@@ -282,3 +300,71 @@ module _ (words : List (List ℕ)) (shelf : Option Shelf) (v : Survey) (c : Coun
   run_done is new before now r asked same answers one =
       noise_done command.Run tt words is shelf v c counted gives (RunsWith c (noise_words c.noise))
       (λ a o made. (v, survey_is command.Run tt words is shelf v c counted gives (RunsWith c (noise_words c.noise)) o, runs v c counted a made)) new before now r asked same answers one
+
+-- ---- `demo`
+
+module _ (words : List (List ℕ)) (is : command_of words ≡ Some command.Demo) (old : Option Shelf) where
+  abbrev asked_number : ℕ
+  asked_number = number_of words number.Demo
+
+  abbrev asked_size : ℕ
+  asked_size = number_of words number.Size
+
+  abbrev own_survey : Survey
+  own_survey = demo_survey asked_number asked_size
+
+  own_held : (shelf : Option Shelf) → IfSome shelf (λ s. survey_of command.Demo words (given_by words s.holds) ≡ Ok own_survey)
+  own_held None = tt
+  own_held (Some s) = refl
+
+  demo_has : IsDetermined (IsNoise (variances_of own_survey.schema own_survey.spine)) → HasSurvey command.Demo words old own_survey
+  demo_has one = record { is = is; held = own_held old; one = one }
+
+  demo_stops : (status : ℕ) (a : Answer) → IsDetermined (IsNoise (variances_of own_survey.schema own_survey.spine)) → StopsWith own_survey.schema own_survey.spine own_survey.words status a → StopsAs status words old a
+  demo_stops status a one stops = record { command = command.Demo; draws = tt; survey = own_survey; has = demo_has one; stops = stops }
+
+  demo_suits : (k : Cause) (a : Answer) → IsOfDemoFiles asked_number asked_size own_survey → IsDetermined (IsNoise (variances_of own_survey.schema own_survey.spine))
+      → AnswersDemoBy k asked_number asked_size own_survey a → SuitsBy k words old a
+  demo_suits cause.Done a files one answers = (command.Demo, (own_survey, demo_has one, files, answers))
+  demo_suits cause.Against a files one answers = absurd answers
+  demo_suits cause.Words a files one answers = absurd answers
+  demo_suits (cause.Refused f) a files one answers = absurd answers
+  demo_suits (cause.Read f) a files one answers = absurd answers
+  demo_suits cause.OutOfWords a files one answers = demo_stops 6 a one answers
+  demo_suits cause.TooLarge a files one answers = demo_stops 7 a one answers
+
+  no_reads : reads_of words ≡ []
+  no_reads = paths_read words command.Demo is
+
+  asks_none : old ≡ option_map (asks_all (reads_of words)) old
+  asks_none = (asks_no_name [] old).asked ∙ ap (λ names. option_map (asks_all names) old) (sym no_reads)
+
+  demo_asks : (k : Cause) (a : Answer) → AnswersDemoBy k asked_number asked_size own_survey a → AsksBy k words old old
+  demo_asks cause.Done a answers = asks_none
+  demo_asks cause.Against a answers = absurd answers
+  demo_asks cause.Words a answers = absurd answers
+  demo_asks (cause.Refused f) a answers = absurd answers
+  demo_asks (cause.Read f) a answers = absurd answers
+  demo_asks cause.OutOfWords a answers = asks_none
+  demo_asks cause.TooLarge a answers = asks_none
+
+  demo_counts : (k : Cause) (a : Answer) (n : ℕ) → AnswersDemoBy k asked_number asked_size own_survey a → CountsBy k n n
+  demo_counts cause.Done a n answers = refl
+  demo_counts cause.Against a n answers = absurd answers
+  demo_counts cause.Words a n answers = absurd answers
+  demo_counts (cause.Refused f) a n answers = absurd answers
+  demo_counts (cause.Read f) a n answers = absurd answers
+  demo_counts cause.OutOfWords a n answers = refl
+  demo_counts cause.TooLarge a n answers = refl
+
+  pub demo_done : (n : ℕ) (r : Result Answer NoMemory) → IfOk r (AnswersDemo asked_number asked_size) → IsPrepared words old old n n r
+  demo_done n (Ok a) answers = record {
+    suits = demo_suits a.cause a answers.files answers.one answers.answers;
+    asked = demo_asks a.cause a answers.answers;
+    cause = demo_counts a.cause a n answers.answers;
+  }
+  demo_done n (Err m) answers = record {
+    suits = tt;
+    asked = asks_nothing (reads_of words) old old refl;
+    cause = omega arith;
+  }

@@ -1,5 +1,5 @@
 -- What a run leaves tells what the top call answers.
-use Rattle.std.proofs.Common.{◌≡◌, ◌≢◌, ◌∙◌, ◌++◌, ◌∷◌, ◌+◌, ◌-◌, ◌⊎◌, [], List, ℕ, ℤ, length, map, take, refl, sym, ap, subst, Option, Some, None, IfSome, option_map, inl, inr, Result, Ok, Err, slice_index_or, arith}
+use Rattle.std.proofs.Common.{◌≡◌, ◌≢◌, ◌∙◌, ◌++◌, ◌∷◌, ◌+◌, ◌-◌, ◌⊎◌, [], List, ℕ, ℤ, length, map, take, refl, sym, ap, subst, Option, Some, None, IfSome, option_map, inl, inr, Result, Ok, Err, slice_index_or, slice_get, arith}
 use Rattle.std.specs.Result.{IfOk}
 use Rattle.std.proofs.lemmas.List.{length-map}
 use Rattle.tda_io.specs.Due.{◌>>=◌}
@@ -19,16 +19,18 @@ use Rattle.tda_tool.specs.Fitting.{fitted_ending}
 use Rattle.tda_release.specs.Certified.{pricing_text}
 use Rattle.tda_inputs.specs.Survey.{Survey}
 use Rattle.tda_tool.specs.Measuring.{Draws, WordsSuffice, state_counts, noise_ending, stop_ending, measured_ending, MeasureEnds}
-use Rattle.tda_command.specs.Words.{command_of, form_in, reads_of, writes_of, read_names, write_names, pairs_after, values_in, dash}
+use Rattle.tda_command.specs.Words.{command_of, form_in, reads_of, writes_of, read_names, write_names, pairs_after, values_in, dash, number_of}
 use Rattle.tda_tool.specs.Auditing.{verdict_on, case_over, audit_ending, ending_by, yes_ending, no_ending, AreAnsweredYes}
 use Rattle.tda_audit.specs.declared.verdict.Verdict.{Verdict}
 use Rattle.tda_audit.specs.declared.verdict.Verdict.TheVariants.{Yes, Sum, Impossible, Total, Kind, Arc}
+use Rattle.tda_command.specs.declared.words.Number.TheVariants as number
+use Rattle.tda_tool.specs.Demonstrating.{demonstrated_ending, EndsDemo, DemoEnds}
 use Rattle.tda_tool.specs.Running.{run_inputs, measured_by, ran_ending, EndsRun, RunEnds}
 use Rattle.tda_inputs.specs.Ending.{Ending, refused_ending}
 use Rattle.tda_tool.specs.Ending.{words_ending}
 use Rattle.tda_inputs.specs.Accepted.{Given, Case, inputs_from, survey_from, case_from, given_by}
-use Rattle.tda_tool.specs.Due.{Task, Fits, Measures, Runs, Audits, EndsBy, Due, IsDue, IsDueStatus, task_of, task_by, due_task, Suffices, IsComplete}
-use Rattle.tda_tool.specs.Outcome.{IsSettled, IsAnsweredYes, whole, Leaves, LeavesAll, ReportsDue, FitWrote, MeasureWrote, RunWrote, AuditYes, AuditNo, NoiseStopped, FileRefused, ReadFailed, BeginsPrefix, BeginsWhenDue}
+use Rattle.tda_tool.specs.Due.{Task, Fits, Measures, Runs, Audits, EndsBy, Due, IsDue, IsDueStatus, task_of, task_by, due_task, Suffices, IsComplete, Demonstrates, survey_of}
+use Rattle.tda_tool.specs.Outcome.{IsSettled, IsAnsweredYes, whole, Leaves, LeavesAll, ReportsDue, FitWrote, MeasureWrote, RunWrote, AuditYes, AuditNo, NoiseStopped, FileRefused, ReadFailed, BeginsPrefix, BeginsWhenDue, DemoWrote}
 use Rattle.tda_inputs.specs.Asked.{asks_all, AsksPrefix}
 use Rattle.tda_inputs.specs.Files.{name_of, place_of_file, IsRead}
 use Rattle.tda_tool.specs.Answer.{status_by, Suits, SuitsBy, IsDone, HasInputs, HasSurvey, HasCase, IsFitted, IsMeasured, IsRun, StopsAs, RefusesFile, FailsAt, ReportsAlone, WritesNames, Asks, AsksBy, CountsBy, CountsRun, files_of, target_of, targets_of, status_of}
@@ -70,21 +72,23 @@ abbrev to_fit : Result Inputs Ending → Result Task Ending
 to_fit r = r >>= (λ i. Ok (Fits i))
 
 -- what a command that draws is to do with a survey
-abbrev pub drawing : (c : Command) → Draws c → Survey → Task
-drawing command.Measure draws v = Measures v
-drawing command.Run draws v = Runs v
-drawing command.Fit draws v = absurd draws
-drawing command.Audit draws v = absurd draws
+abbrev pub drawing : (c : Command) → Draws c → List (List ℕ) → Survey → Task
+drawing command.Measure draws words v = Measures v
+drawing command.Run draws words v = Runs v
+drawing command.Demo draws words v = Demonstrates (number_of words number.Demo) (number_of words number.Size) v
+drawing command.Fit draws words v = absurd draws
+drawing command.Audit draws words v = absurd draws
 
-abbrev to_draw : (c : Command) → Draws c → Result Survey Ending → Result Task Ending
-to_draw c draws r = r >>= (λ v. Ok (drawing c draws v))
+abbrev to_draw : (c : Command) → Draws c → List (List ℕ) → Result Survey Ending → Result Task Ending
+to_draw c draws words r = r >>= (λ v. Ok (drawing c draws words v))
 
 pub fit_task : (words : List (List ℕ)) (given : Given) (r : Result Inputs Ending) → command_of words ≡ Some command.Fit → inputs_from given ≡ r → task_by words given ≡ to_fit r
 fit_task words given r is held = ap (task_if words given) is ∙ ap to_fit held
 
-pub draw_task : (c : Command) (draws : Draws c) (words : List (List ℕ)) (given : Given) (r : Result Survey Ending) → command_of words ≡ Some c → survey_from words given ≡ r → task_by words given ≡ to_draw c draws r
-draw_task command.Measure draws words given r is held = ap (task_if words given) is ∙ ap (to_draw command.Measure draws) held
-draw_task command.Run draws words given r is held = ap (task_if words given) is ∙ ap (to_draw command.Run draws) held
+pub draw_task : (c : Command) (draws : Draws c) (words : List (List ℕ)) (given : Given) (r : Result Survey Ending) → command_of words ≡ Some c → survey_of c words given ≡ r → task_by words given ≡ to_draw c draws words r
+draw_task command.Measure draws words given r is held = ap (task_if words given) is ∙ ap (to_draw command.Measure draws words) held
+draw_task command.Run draws words given r is held = ap (task_if words given) is ∙ ap (to_draw command.Run draws words) held
+draw_task command.Demo draws words given r is held = ap (task_if words given) is ∙ ap (to_draw command.Demo draws words) held
 draw_task command.Fit draws words given r is held = absurd draws
 draw_task command.Audit draws words given r is held = absurd draws
 
@@ -153,10 +157,41 @@ run_stops : (words : List (List ℕ)) (s : Shelf) (v : Survey) → HasSurvey com
 run_stops words s v has why rest is =
     due_from words s.holds (Ok (Runs v)) _ (run_task words s v has) (record { noise = Err why; rest = rest; is = is; ends = refl }) (λ d h. ends_same v has.one (Err why) rest is d h)
 
+-- ---- `demo`: the same of its own survey
+
+demo_ends : (number size : ℕ) (v : Survey) → IsDetermined (IsNoise (variances_of v.schema v.spine)) → (noise : Result (List ℤ) MeasureStop) (rest : List ℕ)
+    → IsNoise (variances_of v.schema v.spine) v.words noise rest → (d : Ending) → DemoEnds number size v d → EndsDemo number size v noise rest d
+demo_ends number size v one noise rest is d h =
+    let same : h.noise ≡ noise = one.value v.words h.noise noise h.rest rest h.is is in
+    let left : h.rest ≡ rest = one.rest v.words h.noise noise h.rest rest h.is is in
+    subst (λ r. EndsDemo number size v noise r d) left (subst (λ n. EndsDemo number size v n h.rest d) same h.ends)
+
+demo_task : (words : List (List ℕ)) (s : Shelf) (v : Survey) → HasSurvey command.Demo words (Some s) v → due_task words s.holds ≡ Ok (Demonstrates (number_of words number.Demo) (number_of words number.Size) v)
+demo_task words s v has = draw_task command.Demo tt words (given_by words s.holds) (Ok v) has.is has.held
+
+demo_due : (words : List (List ℕ)) (s : Shelf) (v : Survey) → HasSurvey command.Demo words (Some s) v → (noise : List ℤ) (rest : List ℕ)
+    → IsNoise (variances_of v.schema v.spine) v.words (Ok noise) rest → (x : Tables) → IsRelease square (run_inputs v (measured_by v noise)) x
+    → IsDue words s.holds (demonstrated_ending (number_of words number.Demo) (number_of words number.Size) v (measured_by v noise) (length v.words - length rest) x)
+demo_due words s v has noise rest is x release =
+    let task = demo_task words s v has in
+    let e = demonstrated_ending (number_of words number.Demo) (number_of words number.Size) v (measured_by v noise) (length v.words - length rest) x in
+    record {
+      due = subst (λ t. EndsBy t e) (sym task) (record { noise = Ok noise; rest = rest; is = is; ends = (x, release, refl) });
+      status = λ d h. let ends = demo_ends _ _ v has.one (Ok noise) rest is d (subst (λ t. EndsBy t d) task h) in ap (λ y. y.status) ends.2;
+      report = λ some d h. absurd (some refl);
+    }
+
+demo_stops : (words : List (List ℕ)) (s : Shelf) (v : Survey) → HasSurvey command.Demo words (Some s) v → (why : MeasureStop) (rest : List ℕ)
+    → IsNoise (variances_of v.schema v.spine) v.words (Err why) rest → IsDue words s.holds (stop_ending v.schema v.spine why)
+demo_stops words s v has why rest is =
+    due_from words s.holds (Ok (Demonstrates (number_of words number.Demo) (number_of words number.Size) v)) _ (demo_task words s v has) (record { noise = Err why; rest = rest; is = is; ends = refl })
+    (λ d h. demo_ends (number_of words number.Demo) (number_of words number.Size) v has.one (Err why) rest is d h)
+
 stops_due : (c : Command) → Draws c → (words : List (List ℕ)) (s : Shelf) (v : Survey) → HasSurvey c words (Some s) v → (why : MeasureStop) (rest : List ℕ)
     → NoiseStops (variances_of v.schema v.spine) v.words why rest → IsDue words s.holds (stop_ending v.schema v.spine why)
 stops_due command.Measure draws words s v has why rest is = survey_due words s v has (Err why) rest is
 stops_due command.Run draws words s v has why rest is = run_stops words s v has why rest is
+stops_due command.Demo draws words s v has why rest is = demo_stops words s v has why rest is
 stops_due command.Fit draws words s v has why rest is = absurd draws
 stops_due command.Audit draws words s v has why rest is = absurd draws
 
@@ -209,6 +244,17 @@ done_due command.Audit words s a done =
       ending = audit_ending c;
       due = case_due words s c done.1;
       status_is = ap (λ v. (ending_by v c).status) done.2.certified.yes;
+      alone = λ some. absurd (some refl);
+    }
+done_due command.Demo words s a done =
+    let v = done.0 in
+    let made = done.3 in
+    let drawn = made.measured.measured in
+    let release = subst (λ m. IsRelease square (run_inputs v m) made.tells.tables) drawn.sums made.tells.certified.release in
+    record {
+      ending = demonstrated_ending (number_of words number.Demo) (number_of words number.Size) v (measured_by v drawn.noise) (length v.words - length made.measured.rest) made.tells.tables;
+      due = demo_due words s v done.1 drawn.noise made.measured.rest drawn.drawn made.tells.tables release;
+      status_is = refl;
       alone = λ some. absurd (some refl);
     }
 done_due command.Run words s a done =
@@ -285,6 +331,7 @@ done_names : (c : Command) (words : List (List ℕ)) (shelf : Option Shelf) (a :
 done_names command.Fit words shelf a done = done.2.outputs.names_are ∙ sym (writes_for words command.Fit done.1.0)
 done_names command.Measure words shelf a done = done.2.tells.outputs.names_are ∙ sym (writes_for words command.Measure done.1.is)
 done_names command.Audit words shelf a done = ap (map (λ o. o.name.now)) done.2.alone.outputs ∙ sym (writes_for words command.Audit done.1.0)
+done_names command.Demo words shelf a done = ap (map (λ o. o.name.now)) done.3.tells.alone.outputs ∙ sym (writes_for words command.Demo done.1.is)
 done_names command.Run words shelf a done = done.2.tells.outputs.names_are ∙ sym (writes_for words command.Run done.1.is)
 
 pub writes_names_by : (k : Cause) (words : List (List ℕ)) (shelf : Option Shelf) (a : Answer) → SuitsBy k words shelf a → WritesNames words a
@@ -405,11 +452,24 @@ measure_no_audit o a b = cc (a, b)
 run_no_audit : (o : Option Command) → o ≡ Some command.Run → o ≡ Some command.Audit → ⊥
 run_no_audit o a b = cc (a, b)
 
+fit_no_demo : (o : Option Command) → o ≡ Some command.Fit → o ≡ Some command.Demo → ⊥
+fit_no_demo o a b = cc (a, b)
+
+measure_no_demo : (o : Option Command) → o ≡ Some command.Measure → o ≡ Some command.Demo → ⊥
+measure_no_demo o a b = cc (a, b)
+
+run_no_demo : (o : Option Command) → o ≡ Some command.Run → o ≡ Some command.Demo → ⊥
+run_no_demo o a b = cc (a, b)
+
+audit_no_demo : (o : Option Command) → o ≡ Some command.Audit → o ≡ Some command.Demo → ⊥
+audit_no_demo o a b = cc (a, b)
+
 done_fit : (c : Command) (words : List (List ℕ)) (s : Shelf) (a : Answer) (old new : Option Tray) → IsDone c words (Some s) a → Leaves (files_of words a) old new → command_of words ≡ Some command.Fit
     → FitWrote words s.holds old new
 done_fit command.Fit words s a old new done left is = wrote_tables words s a old new done.0 done.1 done.2 left
 done_fit command.Measure words s a old new done left is = absurd (fit_no_measure (command_of words) is done.1.is)
 done_fit command.Run words s a old new done left is = absurd (fit_no_run (command_of words) is done.1.is)
+done_fit command.Demo words s a old new done left is = absurd (fit_no_demo (command_of words) is done.1.is)
 done_fit command.Audit words s a old new done left is = absurd (fit_no_audit (command_of words) is done.1.0)
 
 done_measure : (c : Command) (words : List (List ℕ)) (s : Shelf) (a : Answer) (old new : Option Tray) → IsDone c words (Some s) a → Leaves (files_of words a) old new → command_of words ≡ Some command.Measure
@@ -417,6 +477,7 @@ done_measure : (c : Command) (words : List (List ℕ)) (s : Shelf) (a : Answer) 
 done_measure command.Fit words s a old new done left is = absurd (fit_no_measure (command_of words) done.1.0 is)
 done_measure command.Measure words s a old new done left is = wrote_measured words s a old new done.0 done.1 done.2 left
 done_measure command.Run words s a old new done left is = absurd (measure_no_run (command_of words) is done.1.is)
+done_measure command.Demo words s a old new done left is = absurd (measure_no_demo (command_of words) is done.1.is)
 done_measure command.Audit words s a old new done left is = absurd (measure_no_audit (command_of words) is done.1.0)
 
 done_run : (c : Command) (words : List (List ℕ)) (s : Shelf) (a : Answer) (old new : Option Tray) → IsDone c words (Some s) a → Leaves (files_of words a) old new → command_of words ≡ Some command.Run
@@ -424,6 +485,7 @@ done_run : (c : Command) (words : List (List ℕ)) (s : Shelf) (a : Answer) (old
 done_run command.Fit words s a old new done left is = absurd (fit_no_run (command_of words) done.1.0 is)
 done_run command.Measure words s a old new done left is = absurd (measure_no_run (command_of words) done.1.is is)
 done_run command.Run words s a old new done left is = wrote_run words s a old new done.0 done.1 done.2 left
+done_run command.Demo words s a old new done left is = absurd (run_no_demo (command_of words) is done.1.is)
 done_run command.Audit words s a old new done left is = absurd (run_no_audit (command_of words) is done.1.0)
 
 done_audit : (c : Command) (words : List (List ℕ)) (s : Shelf) (a : Answer) (old new : Option Tray) → IsDone c words (Some s) a → Leaves (files_of words a) old new → command_of words ≡ Some command.Audit
@@ -431,12 +493,72 @@ done_audit : (c : Command) (words : List (List ℕ)) (s : Shelf) (a : Answer) (o
 done_audit command.Fit words s a old new done left is = absurd (fit_no_audit (command_of words) done.1.0 is)
 done_audit command.Measure words s a old new done left is = absurd (measure_no_audit (command_of words) done.1.is is)
 done_audit command.Run words s a old new done left is = absurd (run_no_audit (command_of words) done.1.is is)
+done_audit command.Demo words s a old new done left is = absurd (audit_no_demo (command_of words) is done.1.is)
 done_audit command.Audit words s a old new done left is = record {
   case = done.0;
   accepted = done.1.1;
   certified = done.2.certified;
   written = report_alone words _ a old new done.2.alone left;
 }
+
+done_demo : (c : Command) (words : List (List ℕ)) (s : Shelf) (a : Answer) (old new : Option Tray) → IsDone c words (Some s) a → Leaves (files_of words a) old new → command_of words ≡ Some command.Demo
+    → DemoWrote words old new
+done_demo command.Fit words s a old new done left is = absurd (fit_no_demo (command_of words) done.1.0 is)
+done_demo command.Measure words s a old new done left is = absurd (measure_no_demo (command_of words) done.1.is is)
+done_demo command.Run words s a old new done left is = absurd (run_no_demo (command_of words) done.1.is is)
+done_demo command.Audit words s a old new done left is = absurd (audit_no_demo (command_of words) done.1.0 is)
+done_demo command.Demo words s a old new done left is = record {
+  survey = done.0;
+  files = done.2;
+  measurements = done.3.measurements;
+  taken = done.3.taken;
+  measured = done.3.measured;
+  tables = done.3.tells.tables;
+  price = done.3.tells.price;
+  certified = done.3.tells.certified;
+  written = report_alone words _ a old new done.3.tells.alone left;
+}
+
+demo_wrote_by : (k : Cause) (words : List (List ℕ)) (s : Shelf) (a : Answer) (old new : Option Tray) → SuitsBy k words (Some s) a → Leaves (files_of words a) old new → status_by k ≡ 0
+    → command_of words ≡ Some command.Demo → DemoWrote words old new
+demo_wrote_by cause.Done words s a old new suits left zero is = done_demo suits.0 words s a old new suits.1 left is
+demo_wrote_by cause.Against words s a old new suits left zero is = cc zero
+demo_wrote_by cause.Words words s a old new suits left zero is = cc zero
+demo_wrote_by (cause.Refused f) words s a old new suits left zero is = cc zero
+demo_wrote_by (cause.Read f) words s a old new suits left zero is = cc zero
+demo_wrote_by cause.OutOfWords words s a old new suits left zero is = cc zero
+demo_wrote_by cause.TooLarge words s a old new suits left zero is = cc zero
+
+pub demo_wrote : (words : List (List ℕ)) (shelf : Option Shelf) (r : Run) (old new : Option Tray) → IfOk r (Suits words shelf) → IfOk r (λ a. Leaves (files_of words a) old new)
+    → status_of r ≡ 0 → command_of words ≡ Some command.Demo → IfSome shelf (λ s. DemoWrote words old new)
+demo_wrote words None r old new suits left zero is = tt
+demo_wrote words (Some s) (Ok a) old new suits left zero is = demo_wrote_by a.cause words s a old new suits left zero is
+demo_wrote words (Some s) (Err fault_out.Failed) old new suits left zero is = cc zero
+demo_wrote words (Some s) (Err fault_out.NoMemory) old new suits left zero is = cc zero
+
+-- the demo reads no file, so that none is refused
+abbrev no_names : List (List ℕ)
+no_names = []
+
+reads_none : (place : ℕ) (name : List ℕ) → slice_get no_names place ≡ Some name → ⊥
+reads_none place name is = cc is
+
+demo_refuses : (words : List (List ℕ)) (f : File) → command_of words ≡ Some command.Demo → IsRead words f → ⊥
+demo_refuses words f is reads = reads_none (place_of_file f) (name_of f) (sym (ap (λ names. slice_get names (place_of_file f)) (reads_for words (Some command.Demo) is)) ∙ reads)
+
+accepted_by : (k : Cause) (words : List (List ℕ)) (shelf : Option Shelf) (a : Answer) → SuitsBy k words shelf a → status_by k ≡ 3 → command_of words ≢ Some command.Demo
+accepted_by cause.Done words shelf a suits three = cc three
+accepted_by cause.Against words shelf a suits three = cc three
+accepted_by cause.Words words shelf a suits three = cc three
+accepted_by (cause.Refused f) words shelf a suits three = λ is. demo_refuses words f is suits.reads
+accepted_by (cause.Read f) words shelf a suits three = cc three
+accepted_by cause.OutOfWords words shelf a suits three = cc three
+accepted_by cause.TooLarge words shelf a suits three = cc three
+
+pub demo_accepted : (words : List (List ℕ)) (shelf : Option Shelf) (r : Run) → IfOk r (Suits words shelf) → status_of r ≡ 3 → command_of words ≢ Some command.Demo
+demo_accepted words shelf (Ok a) suits three = accepted_by a.cause words shelf a suits three
+demo_accepted words shelf (Err fault_out.Failed) suits three = cc three
+demo_accepted words shelf (Err fault_out.NoMemory) suits three = cc three
 
 fit_wrote_by : (k : Cause) (words : List (List ℕ)) (s : Shelf) (a : Answer) (old new : Option Tray) → SuitsBy k words (Some s) a → Leaves (files_of words a) old new → status_by k ≡ 0
     → command_of words ≡ Some command.Fit → FitWrote words s.holds old new
@@ -675,19 +797,20 @@ asks_by cause.TooLarge words shelf old new a suits asked = asks_whole _ old new 
 -- ---- right words, accepted files and words that suffice
 
 -- the task of a command that draws has words that suffice exactly where its survey has
-drawing_suffices : (c : Command) (draws : Draws c) (v : Survey) → Suffices (drawing c draws v) → WordsSuffice v
-drawing_suffices command.Measure draws v enough = enough
-drawing_suffices command.Run draws v enough = enough
-drawing_suffices command.Fit draws v enough = absurd draws
-drawing_suffices command.Audit draws v enough = absurd draws
+drawing_suffices : (c : Command) (draws : Draws c) (words : List (List ℕ)) (v : Survey) → Suffices (drawing c draws words v) → WordsSuffice v
+drawing_suffices command.Measure draws words v enough = enough
+drawing_suffices command.Run draws words v enough = enough
+drawing_suffices command.Demo draws words v enough = enough
+drawing_suffices command.Fit draws words v enough = absurd draws
+drawing_suffices command.Audit draws words v enough = absurd draws
 
 -- then the noise doesn't stop
 never_stops : (status : ℕ) (words : List (List ℕ)) (s : Shelf) (a : Answer) → IsComplete words s.holds → StopsAs status words (Some s) a → ⊥
 never_stops status words s a complete is =
     let v = is.survey in
     let task = draw_task is.command is.draws words (given_by words s.holds) (Ok v) is.has.is is.has.held in
-    let same : complete.task ≡ drawing is.command is.draws v = cc (task, complete.accepted) in
-    let enough = drawing_suffices is.command is.draws v (subst Suffices same complete.enough) in
+    let same : complete.task ≡ drawing is.command is.draws words v = cc (task, complete.accepted) in
+    let enough = drawing_suffices is.command is.draws words v (subst Suffices same complete.enough) in
     let noise : Result (List ℤ) MeasureStop = Ok enough.0 in
     let stop : Result (List ℤ) MeasureStop = Err is.stops.why in
     let clash : noise ≡ stop = is.has.one.value v.words noise stop enough.1 is.stops.rest enough.2 is.stops.stops in

@@ -84,7 +84,7 @@ module _ (v : Survey) (c : Counted) (is : IsCounted v c) where
       measured_same v.schema v.spine (count_at c.tables) (true_count v.spine v.records) counts_same w m r
       (subst (λ sp. AreMeasured v.schema sp (count_at c.tables) w m r) is.spine (subst (λ s. AreMeasured s c.spine (count_at c.tables) w m r) is.schema are))
 
-  totals_same : state_persons c.schema c.spine (count_at c.tables) ≡ state_counts v.spine v.records
+  pub totals_same : state_persons c.schema c.spine (count_at c.tables) ≡ state_counts v.spine v.records
   totals_same =
       ap (λ s. state_persons s c.spine (count_at c.tables)) is.schema
       ∙ ap (λ sp. state_persons v.schema sp (count_at c.tables)) is.spine
@@ -96,7 +96,7 @@ module _ (v : Survey) (c : Counted) (is : IsCounted v c) where
       (subst (λ sp. Tells v.schema sp m (state_persons c.schema c.spine (count_at c.tables)) taken a) is.spine
       (subst (λ s. Tells s c.spine m (state_persons c.schema c.spine (count_at c.tables)) taken a) is.schema tells))
 
-  measures_survey : (m : List ℤ) (rest : List ℕ) (taken : ℕ) → AreMeasured c.schema c.spine (count_at c.tables) (noise_words c.noise) m rest → taken + length rest ≡ length (noise_words c.noise) → MeasuresSurvey v m taken
+  pub measures_survey : (m : List ℤ) (rest : List ℕ) (taken : ℕ) → AreMeasured c.schema c.spine (count_at c.tables) (noise_words c.noise) m rest → taken + length rest ≡ length (noise_words c.noise) → MeasuresSurvey v m taken
   measures_survey m rest taken measured taken_are = record {
     rest = rest;
     measured = subst (λ w. AreMeasured v.schema v.spine (true_count v.spine v.records) w m rest) is.words (measured_of (noise_words c.noise) m rest measured);

@@ -34,13 +34,16 @@ use Rattle.tda_release.specs.Certified.{IsCertifiedRelease, total_deviation, pri
 use Rattle.tda_tool.specs.Fitting.{fitted_ending}
 use Rattle.tda_inputs.specs.Survey.{Survey}
 use Rattle.tda_tool.specs.Measuring.{Draws, state_counts, stop_ending, measured_ending, MeasuresSurvey}
-use Rattle.tda_command.specs.Words.{command_of, pairs_after, value_or_empty, reads_of, write_names, dash}
+use Rattle.tda_command.specs.Words.{command_of, number_of, pairs_after, value_or_empty, reads_of, write_names, dash}
 use Rattle.tda_inputs.specs.Ending.{Ending, refused_ending, read_ending}
-use Rattle.tda_tool.specs.Ending.{words_ending, run_ending}
+use Rattle.tda_tool.specs.Ending.{words_ending, run_ending, demo_ending}
 use Rattle.tda_inputs.specs.Accepted.{Case, totals_from, measurements_from, inputs_by, inputs_from, survey_from, case_from, given_by, failing_at}
-use Rattle.tda_tool.specs.Due.{task_by, due_task}
-use Rattle.tda_tool.specs.Outcome.{whole, IsCertifiedCase, IsUncertifiedCase}
+use Rattle.tda_tool.specs.Due.{task_by, due_task, survey_of}
+use Rattle.tda_tool.specs.Outcome.{whole, IsCertifiedCase, IsUncertifiedCase, IsOfDemoFiles}
 use Rattle.tda_tool.specs.Auditing.{tables_in, verdict_on, yes_ending, no_ending, AreAnsweredYes}
+use Rattle.tda_tool.specs.Running.{run_inputs}
+use Rattle.tda_tool.specs.Demonstrating.{demo_survey}
+use Rattle.tda_command.specs.declared.words.Number.TheVariants as number
 use Rattle.tda_inputs.specs.Asked.{asks_all, AsksPrefix}
 use Rattle.tda_inputs.specs.Files.{name_of, place_of_file, IsRead, IsFaultOf}
 use Rattle.tda_inputs.specs.Reading.{IsSource, AreEnough}
@@ -139,6 +142,13 @@ pub record TellsRun (s : Schema) (sp : Spine) (f : NumberTable) (totals : List �
   pub totals_back : totals_from (record { schema = s; spine = sp; facilities = f }) (Some (totals_text sp totals)) ≡ Ok totals
   pub answered : AreAnsweredYes (inputs_by s sp (known sp f totals) m) (tables_text s sp tables) (pricing_text (inputs_by s sp (known sp f totals) m) price) (total_deviation (inputs_by s sp (known sp f totals) m) tables)
 
+-- the five lines of a demo, of a release over these inputs with prices that certify it
+pub record TellsDemo (number size persons : ℕ) (s : Schema) (sp : Spine) (i : Inputs) (taken : ℕ) (a : Answer) : Type 0 where
+  pub tables : Tables
+  pub price : Pricing
+  pub certified : IsCertifiedRelease i tables price
+  pub alone : ReportsAlone (demo_ending number size persons s sp taken (total_deviation i tables)) a
+
 -- measurements of these tables, with so many of these words taken
 pub record AreDrawnFrom (c : Counted) (words : List ℕ) (d : Drawn) : Type 0 where
   pub rest : List ℕ
@@ -216,6 +226,26 @@ pub record IsRun (v : Survey) (a : Answer) : Type 0 where
   pub measured : MeasuresSurvey v measurements taken
   pub tells : TellsRun v.schema v.spine v.facilities (state_counts v.spine v.records) measurements taken a
 
+-- the same of the survey of a demo, in five lines
+pub record IsDemo (number size : ℕ) (v : Survey) (a : Answer) : Type 0 where
+  pub measurements : List ℤ
+  pub taken : ℕ
+  pub measured : MeasuresSurvey v measurements taken
+  pub tells : TellsDemo number size (length v.records) v.schema v.spine (run_inputs v measurements) taken a
+
+-- the answer to a demo, by its cause: the five lines, or where its noise stops
+abbrev pub AnswersDemoBy : Cause → ℕ → ℕ → Survey → Answer → Type 0
+AnswersDemoBy cause.Done number size v a = IsDemo number size v a
+AnswersDemoBy cause.OutOfWords number size v a = StopsWith v.schema v.spine v.words 6 a
+AnswersDemoBy cause.TooLarge number size v a = StopsWith v.schema v.spine v.words 7 a
+AnswersDemoBy _ number size v a = ⊥
+
+-- and the noise on each list of words comes to exactly one thing
+pub record AnswersDemo (number size : ℕ) (a : Answer) : Type 0 where
+  pub files : IsOfDemoFiles number size (demo_survey number size)
+  pub one : IsDetermined (IsNoise (variances_of (demo_survey number size).schema (demo_survey number size).spine))
+  pub answers : AnswersDemoBy a.cause number size (demo_survey number size) a
+
 -- the inputs, or the survey, that the inbox holds
 abbrev pub HasInputs : List (List ℕ) → Option Shelf → Inputs → Type 0
 HasInputs words shelf i = (command_of words ≡ Some command.Fit) × IfSome shelf (λ s. inputs_from (given_by words s.holds) ≡ Ok i)
@@ -223,7 +253,7 @@ HasInputs words shelf i = (command_of words ≡ Some command.Fit) × IfSome shel
 -- and the noise on each list of words comes to exactly one thing
 pub record HasSurvey (c : Command) (words : List (List ℕ)) (shelf : Option Shelf) (v : Survey) : Type 0 where
   pub is : command_of words ≡ Some c
-  pub held : IfSome shelf (λ s. survey_from words (given_by words s.holds) ≡ Ok v)
+  pub held : IfSome shelf (λ s. survey_of c words (given_by words s.holds) ≡ Ok v)
   pub one : IsDetermined (IsNoise (variances_of v.schema v.spine))
 
 -- the case that the inbox holds
@@ -253,6 +283,8 @@ abbrev pub IsDone : Command → List (List ℕ) → Option Shelf → Answer → 
 IsDone command.Fit words shelf a = (i : Inputs) × HasInputs words shelf i × IsFitted i a
 IsDone command.Measure words shelf a = (v : Survey) × HasSurvey command.Measure words shelf v × IsMeasured v a
 IsDone command.Audit words shelf a = (c : Case) × HasCase words shelf c × IsYes c a
+IsDone command.Demo words shelf a = (v : Survey) × HasSurvey command.Demo words shelf v × IsOfDemoFiles (number_of words number.Demo) (number_of words number.Size) v
+    × IsDemo (number_of words number.Demo) (number_of words number.Size) v a
 IsDone command.Run words shelf a = (v : Survey) × HasSurvey command.Run words shelf v × IsRun v a
 
 -- the noise of a command that draws stops, with this status

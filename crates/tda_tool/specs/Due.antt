@@ -2,7 +2,8 @@
 use Rattle.std.specs.Prelude.{ℕ, List, Option, Some, None, Result, Ok, Err, ◌≡◌, ◌≢◌}
 use Rattle.tda_model.specs.Release.{Inputs}
 use Rattle.tda_io.specs.Due.{◌>>=◌}
-use Rattle.tda_command.specs.Words.{command_of}
+use Rattle.tda_command.specs.Words.{command_of, number_of}
+use Rattle.tda_command.specs.declared.words.Number.TheVariants as number
 use Rattle.tda_command.specs.declared.words.Command.{Command}
 use Rattle.tda_inputs.specs.Ending.{Ending}
 use Rattle.tda_inputs.specs.Survey.{Survey}
@@ -12,6 +13,7 @@ use Rattle.tda_tool.specs.Measuring.{MeasureEnds, WordsSuffice}
 use Rattle.tda_tool.specs.Fitting.{FitEnds}
 use Rattle.tda_tool.specs.Running.{RunEnds}
 use Rattle.tda_tool.specs.Auditing.{IsCertified, audit_ending}
+use Rattle.tda_tool.specs.Demonstrating.{demo_survey, DemoEnds}
 use Rattle.tda_command.specs.declared.words.Command.TheVariants as command
 
 -- what is to be done
@@ -20,6 +22,12 @@ pub data Task : Type 0 where
   Measures : Survey → Task
   Runs : Survey → Task
   Audits : Case → Task
+  Demonstrates : ℕ → ℕ → Survey → Task
+
+-- the survey of a command that draws, where its files are accepted, or how the program ends. The demo's needs no file.
+abbrev pub survey_of : Command → List (List ℕ) → Given → Result Survey Ending
+survey_of command.Demo words given = Ok (demo_survey (number_of words number.Demo) (number_of words number.Size))
+survey_of _ words given = survey_from words given
 
 -- what a command is to do, where its files are accepted, or how the program ends
 abbrev pub task_of : Command → List (List ℕ) → Given → Result Task Ending
@@ -27,6 +35,7 @@ task_of command.Fit words given = inputs_from given >>= (λ i. Ok (Fits i))
 task_of command.Measure words given = survey_from words given >>= (λ v. Ok (Measures v))
 task_of command.Run words given = survey_from words given >>= (λ v. Ok (Runs v))
 task_of command.Audit words given = case_from given >>= (λ c. Ok (Audits c))
+task_of command.Demo words given = survey_of command.Demo words given >>= (λ v. Ok (Demonstrates (number_of words number.Demo) (number_of words number.Size) v))
 
 -- what the words ask for, by what the reads give
 abbrev pub task_by : List (List ℕ) → Given → Result Task Ending
@@ -38,6 +47,7 @@ TaskEnds (Fits i) e = FitEnds i e
 TaskEnds (Measures v) e = MeasureEnds v e
 TaskEnds (Runs v) e = RunEnds v e
 TaskEnds (Audits c) e = e ≡ audit_ending c
+TaskEnds (Demonstrates number size v) e = DemoEnds number size v e
 
 abbrev pub EndsBy : Result Task Ending → Ending → Type 0
 EndsBy (Ok task) e = TaskEnds task e
@@ -67,6 +77,7 @@ Suffices (Fits i) = Unit {0}
 Suffices (Measures v) = WordsSuffice v
 Suffices (Runs v) = WordsSuffice v
 Suffices (Audits c) = IsCertified c
+Suffices (Demonstrates number size v) = WordsSuffice v
 
 -- the words are right, the files are accepted, and nothing hinders the task
 pub record IsComplete (words : List (List ℕ)) (holds : List ℕ → Option (List ℕ)) : Type 0 where

@@ -1,8 +1,11 @@
 -- How the program may end but for files.
-use Rattle.std.specs.Prelude.{ℕ, ℤ, codes, List, ◌∷◌, ◌++◌}
+use Rattle.std.specs.Prelude.{ℕ, ℤ, codes, List, length, ◌∷◌, ◌++◌}
 use Rattle.std.specs.Fmt.{decimal, signed_decimal}
 use Rattle.tda_frac.specs.Fraction.{Fraction, text_of}
+use Rattle.tda_model.specs.Schema.{Schema}
 use Rattle.tda_model.specs.Spine.{Spine, fit_count}
+use Rattle.tda_schema.specs.Shares.{frac_of, spent_of}
+use Rattle.tda_places.specs.Places.{places_of}
 use Rattle.tda_inputs.specs.Ending.{Ending, line}
 
 abbrev pub words_ending : Ending
@@ -36,4 +39,17 @@ abbrev pub run_ending : ℕ → Fraction → ℕ → Spine → ℕ → Ending
 run_ending places spent taken sp deviation = record {
   status = 0;
   report = line (codes "ok run places=" ++ decimal places ++ codes " spent=" ++ text_of spent ++ codes " words=" ++ decimal taken ++ codes " fits=" ++ decimal (fit_count sp) ++ codes " deviation=" ++ decimal deviation);
+}
+
+-- The five lines of a demo: its number and size; how many units, persons and places it has; what is spent, and how many words
+-- were taken; how many fits were made, with their deviation; and that an audit says yes.
+abbrev pub demo_ending : ℕ → ℕ → ℕ → Schema → Spine → ℕ → ℕ → Ending
+demo_ending number size persons s sp taken deviation = record {
+  status = 0;
+  report =
+      line (codes "demo number=" ++ decimal number ++ codes " size=" ++ decimal size)
+      ++ line (codes "units=" ++ decimal (length sp.units) ++ codes " persons=" ++ decimal persons ++ codes " places=" ++ decimal (length (places_of s sp)))
+      ++ line (codes "spent=" ++ text_of (frac_of (spent_of s)) ++ codes " words=" ++ decimal taken)
+      ++ line (codes "fits=" ++ decimal (fit_count sp) ++ codes " deviation=" ++ decimal deviation)
+      ++ line (codes "audit yes");
 }

@@ -2,6 +2,7 @@ pub mod Ending
 pub mod Measuring
 pub mod Fitting
 pub mod Running
+pub mod Demonstrating
 pub mod Auditing
 pub mod Due
 pub mod Outcome

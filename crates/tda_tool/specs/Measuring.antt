@@ -12,7 +12,7 @@ use Rattle.tda_measure.specs.Measured.{AreMeasured}
 use Rattle.tda_measure.specs.Noise.{variances_of, IsNoise}
 use Rattle.tda_measure.specs.declared.stop.MeasureStop.{MeasureStop}
 use Rattle.tda_command.specs.declared.words.Command.{Command}
-use Rattle.tda_command.specs.declared.words.Command.TheVariants.{Fit, Measure, Run, Audit}
+use Rattle.tda_command.specs.declared.words.Command.TheVariants.{Fit, Measure, Run, Audit, Demo}
 use Rattle.tda_inputs.specs.Ending.{Ending}
 use Rattle.tda_inputs.specs.Survey.{Survey}
 use Rattle.tda_tool.specs.Ending.{out_of_words_ending, too_large_ending, memory_ending, measure_ending}
@@ -24,6 +24,7 @@ Draws Measure = Unit {0}
 Draws Run = Unit {0}
 Draws Fit = ⊥
 Draws Audit = ⊥
+Draws Demo = Unit {0}
 
 -- a place as it is printed: the unit's code, the query's name and the class's number, and nothing where there is no such place
 abbrev pub place_text : Schema → Spine → ℕ → List ℕ

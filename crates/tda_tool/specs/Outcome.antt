@@ -8,7 +8,8 @@ use Rattle.tda_model.specs.Spine.{Spine}
 use Rattle.tda_model.specs.Tables.{Tables}
 use Rattle.tda_model.specs.Release.{Inputs, IsRelease}
 use Rattle.tda_prices.specs.Items.{Pricing}
-use Rattle.tda_command.specs.Words.{command_of, reads_of, writes_of, dash}
+use Rattle.tda_command.specs.Words.{command_of, number_of, reads_of, writes_of, dash}
+use Rattle.tda_command.specs.declared.words.Number.TheVariants as number
 use Rattle.tda_invar.specs.Totals.{totals_text}
 use Rattle.tda_places.specs.Measurements.{measurements_text}
 use Rattle.tda_io.specs.Outside.{Shelf, Tray, Written}
@@ -27,9 +28,21 @@ use Rattle.tda_inputs.specs.Accepted.{Given, given_by, failing_at, Case, inputs_
 use Rattle.tda_release.specs.Certified.{IsCertifiedRelease, pricing_text, total_deviation}
 use Rattle.tda_tool.specs.Measuring.{Draws, stop_ending, measured_ending, state_counts, MeasuresSurvey}
 use Rattle.tda_tool.specs.Fitting.{fitted_ending}
+use Rattle.tda_tool.specs.Demonstrating.{noise_place, noise_budget, demonstrated_ending}
+use Rattle.rand_chacha.specs.ChaCha.{key_of}
+use Rattle.tda_words.specs.Words.{stream_words}
+use Rattle.tda_schema.specs.Read as schema_file
+use Rattle.tda_spine.specs.Judged as spine_file
+use Rattle.tda_invar.specs.Facilities as facilities_file
+use Rattle.tda_records.specs.Records as records_file
+use Rattle.tda_hist.specs.Agreement.{agree_due}
+use Rattle.tda_hist.specs.TrueTable.{true_count}
+use Rattle.tda_demo.specs.Demo.{spine_text, facilities_text, records_text}
+use Rattle.tda_demo.specs.Persons.{seed}
+use Rattle.tda_demo.specs.Text.{schema_text}
 use Rattle.tda_tool.specs.Running.{run_inputs, ran_ending}
 use Rattle.tda_tool.specs.Auditing.{tables_in, IsCertified, verdict_on, yes_ending, no_ending, followed}
-use Rattle.tda_tool.specs.Due.{task_by, due_task, IsDue, IsDueStatus, IsComplete}
+use Rattle.tda_tool.specs.Due.{task_by, due_task, IsDue, IsDueStatus, IsComplete, survey_of}
 use Rattle.tda_inputs.specs.Files.{name_of, place_of_file, IsRead, IsFaultOf}
 
 -- a file with all its bytes, ended
@@ -134,14 +147,14 @@ pub record FitWrote (words : List (List ℕ)) (holds : List ℕ → Option (List
       ∷ whole dash (fitted_ending inputs tables).report ∷ []) old new
   pub answered : IsAnsweredYes (followed 5 (tables_text inputs.schema inputs.spine tables ∷ pricing_text inputs price ∷ []) (given_by words holds)) inputs.spine (total_deviation inputs tables)
 
--- The noise of `measure` or `run` stops, so that this is the status: all files were asked for and accepted, and nothing but the report of the place was begun.
+-- The noise of `measure`, `run` or `demo` stops, so that this is the status: all files were asked for and accepted, and nothing but the report of the place was begun.
 pub record NoiseStopped (words : List (List ℕ)) (status : ℕ) (shelf shelf_new : Option Shelf) (old new : Option Tray) : Type 0 where
   pub command : Command
   pub is : command_of words ≡ Some command
   pub draws : Draws command
   pub asked : shelf_new ≡ option_map (asks_all (reads_of words)) shelf
   pub survey : Survey
-  pub accepted : IfSome shelf (λ s. survey_from words (given_by words s.holds) ≡ Ok survey)
+  pub accepted : IfSome shelf (λ s. survey_of command words (given_by words s.holds) ≡ Ok survey)
   pub why : MeasureStop
   pub rest : List ℕ
   pub stops : NoiseStops (variances_of survey.schema survey.spine) survey.words why rest
@@ -213,3 +226,25 @@ pub record AuditNo (words : List (List ℕ)) (shelf shelf_new : Option Shelf) (o
   pub accepted : IfSome shelf (λ s. case_from (given_by words s.holds) ≡ Ok case)
   pub uncertified : IsUncertifiedCase case
   pub written : LeavesReport (no_ending case.inputs.schema case.inputs.spine (verdict_on case)).report old new
+
+-- The readers accept the demo's files, of which `run` measures this survey where its words are those of the demo's seed.
+pub record IsOfDemoFiles (number size : ℕ) (v : Survey) : Type 0 where
+  pub schema : schema_file.read schema_text ≡ Ok v.schema
+  pub spine : spine_file.read v.schema (spine_text size) ≡ Ok v.spine
+  pub facilities : facilities_file.read v.schema v.spine (facilities_text size) ≡ Ok v.facilities
+  pub records : records_file.read v.schema v.spine (records_text number size) ≡ Ok v.records
+  pub agree : agree_due v.schema v.spine v.facilities (true_count v.spine v.records) ≡ Ok tt
+  pub words : v.words ≡ stream_words (key_of (seed number)) noise_place noise_budget
+
+-- `demo` wrote five lines and nothing else: of what `run` measures on the demo's files, and of tables that are a release over it, with
+-- prices that certify them, so that an audit says yes.
+pub record DemoWrote (words : List (List ℕ)) (old new : Option Tray) : Type 0 where
+  pub survey : Survey
+  pub files : IsOfDemoFiles (number_of words number.Demo) (number_of words number.Size) survey
+  pub measurements : List ℤ
+  pub taken : ℕ
+  pub measured : MeasuresSurvey survey measurements taken
+  pub tables : Tables
+  pub price : Pricing
+  pub certified : IsCertifiedRelease (run_inputs survey measurements) tables price
+  pub written : LeavesReport (demonstrated_ending (number_of words number.Demo) (number_of words number.Size) survey measurements taken tables).report old new

@@ -3,6 +3,7 @@
 
 mod answer;
 mod audit;
+mod demo;
 mod draw;
 mod fit;
 mod measured;

@@ -1,15 +1,16 @@
 // All that comes before the outputs: the words are judged, the files are read, what is written is made.
 ghost use Rattle.std.specs.Prelude.{◌≡◌, ◌-◌, ◌^◌, ◌<◌, IfOk, map, string_bytes, Some};
-ghost use Rattle.tda_command.specs.Words.{command_of};
-ghost use Rattle.tda_tool.specs.Answer.{Suits, AsksPrepared, CountsPrepared, AnswersStop};
+ghost use Rattle.tda_command.specs.Words.{command_of, number_of};
+ghost use Rattle.tda_tool.specs.Answer.{Suits, AsksPrepared, CountsPrepared, AnswersStop, AnswersDemo};
 
 use crate::answer::Answer;
 use crate::audit::audited;
+use crate::demo::{Demo, demonstrated};
 use crate::fit::fitted;
 use crate::measured::measured;
 use crate::run::ran;
 use std::alloc::Global;
-use tda_command::{Command, judge};
+use tda_command::{Command, Number, judge, number_of};
 use tda_inputs::{Stop, read_counted, read_evidence, read_inputs};
 use tda_io::{Inbox, NoMemory};
 
@@ -86,6 +87,16 @@ fn audit<I: Inbox>(alloc: Global, words: &[String], inbox: &mut I) -> Result<Ans
     }
 }
 
+// What `demo` answers: all is made from the number and the size among the words.
+fn demo(alloc: Global, words: &[String]) -> Result<Answer, NoMemory>
+    requires { command_of (map string_bytes words.now) ≡ Some Command.Demo }
+    ensures { IfOk result (AnswersDemo (number_of (map string_bytes words.now) Number.Demo) (number_of (map string_bytes words.now) Number.Size)) }
+{
+    let number = number_of(words, Number::Demo);
+    let size = number_of(words, Number::Size) as u32;
+    demonstrated(alloc, Demo { number, size })
+}
+
 /// Judges the words, reads and judges the files, and makes the outputs and the report.
 pub(crate) fn prepare<I: Inbox>(
     alloc: Global,
@@ -102,6 +113,7 @@ pub(crate) fn prepare<I: Inbox>(
         Some(Command::Fit) => fit(alloc, words, inbox),
         Some(Command::Run) => run(alloc, words, inbox),
         Some(Command::Audit) => audit(alloc, words, inbox),
+        Some(Command::Demo) => demo(alloc, words),
         None => Answer::words(alloc),
     }
 }

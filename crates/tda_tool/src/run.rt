@@ -50,9 +50,9 @@ fn joined(
     }
 }
 
-// What the tables are made from: the facilities, the totals of the states, and measurements. The records' tables are
-// dropped.
-fn published(
+/// What the tables are made from: the facilities, the totals of the states, and measurements. The records' tables are
+/// dropped.
+pub(crate) fn published(
     alloc: Global,
     counted: Counted,
     measurements: Measurements,

@@ -4,7 +4,7 @@ ghost use Rattle.tda_io.specs.Outside.{CountsOut};
 ghost use Rattle.tda_command.specs.Words.{command_of, reads_of, writes_of};
 ghost use Rattle.tda_tool.specs.Ending.{words_ending};
 ghost use Rattle.tda_tool.specs.Due.{IsDueStatus, IsComplete};
-ghost use Rattle.tda_tool.specs.Outcome.{is_status, IsSettled, IsEmpty, Leaves, LeavesReport, LeavesAll, ReportsDue, FitWrote, MeasureWrote, RunWrote, AuditYes, AuditNo, NoiseStopped, FileRefused, ReadFailed, BeginsPrefix, BeginsWhenDue};
+ghost use Rattle.tda_tool.specs.Outcome.{is_status, IsSettled, IsEmpty, Leaves, LeavesReport, LeavesAll, ReportsDue, FitWrote, MeasureWrote, RunWrote, DemoWrote, AuditYes, AuditNo, NoiseStopped, FileRefused, ReadFailed, BeginsPrefix, BeginsWhenDue};
 ghost use Rattle.tda_inputs.specs.Asked.{AsksPrefix, asks_all};
 ghost use Rattle.tda_tool.specs.Answer.{Suits, Asks, files_of, CountsRun, status_of};
 
@@ -98,6 +98,12 @@ pub fn tool<I: Inbox, O: Outbox>(
     // and wrote is answered yes.
     ensures run_wrote { result ≡ 0 → command_of (map string_bytes words.now) ≡ Some Command.Run → IfSome (I.told inbox.old) (λ s.
         RunWrote (map string_bytes words.now) s.holds (O.told outbox.old) (O.told outbox.new)) }
+
+    // What `demo` writes: five lines of what `run` and then `audit` come to on the demo's files, and nothing else. Its files are
+    // never refused.
+    ensures demo_told { result ≡ 0 → command_of (map string_bytes words.now) ≡ Some Command.Demo → IfSome (I.told inbox.old) (λ s.
+        DemoWrote (map string_bytes words.now) (O.told outbox.old) (O.told outbox.new)) }
+    ensures demo_accepted { result ≡ 3 → command_of (map string_bytes words.now) ≢ Some Command.Demo }
 
     // A yes of `audit` says that the prices certify the tables, so that they are a release, whoever wrote the files. A no says
     // that they don't, with the first condition that fails.

@@ -6,6 +6,8 @@ mod answered_tests;
 #[cfg(test)]
 mod audit_tests;
 #[cfg(test)]
+mod demo_tests;
+#[cfg(test)]
 mod failure_tests;
 #[cfg(test)]
 mod fault_tests;

@@ -49,3 +49,11 @@ returns-clause-stopped g c =
 pub returns-clause-failed_file : goal.returns-clause-failed_file
 returns-clause-failed_file g c =
     rw c.status.ensures (ran.failed_file (map string_bytes c.args.words.now) c.run.result _ _ _ _ c.run.ensures.suits c.run.ensures.told c.run.ensures.written)
+
+pub returns-clause-demo_told : goal.returns-clause-demo_told
+returns-clause-demo_told g c =
+    rw c.status.ensures (ran.demo_wrote (map string_bytes c.args.words.now) _ c.run.result _ _ c.run.ensures.suits c.run.ensures.written)
+
+pub returns-clause-demo_accepted : goal.returns-clause-demo_accepted
+returns-clause-demo_accepted g c =
+    rw c.status.ensures (ran.demo_accepted (map string_bytes c.args.words.now) _ c.run.result c.run.ensures.suits)
